@@ -20,6 +20,9 @@ use pt_types::{Done as Record, Fired, Kind, Ports, Task};
 ///
 /// A block and the guard of a machine's row call the stored function, if the block with their number has their law; else
 /// they compute the law's value. Both give the same value.
+///
+/// A scale by 3/2 whose input 0 is 5 has 7 at output 0 (7.5, rounded down), and its state stays. A count in state 2 has 3 at
+/// output 0, and state 3.
 pub fn fire(blocks: &Blocks, kind: &Kind, task: &Task) -> Done
     requires { IsTrue (kind_is_lawful kind.now) }
     ensures task { result.task ≡ task.now }
@@ -129,11 +132,7 @@ fn fired(
         Kind::Every { .. } => begin(state, outputs),
         Kind::Block { block, law } => {
             let (a, b) = (or_zero(inputs.get(0)), or_zero(inputs.get(1)));
-            gives(
-                outputs,
-                state,
-                Some(block_value(blocks, *block, *law, a, b)),
-            )
+            gives(outputs, state, Some(block_value(blocks, *block, law, a, b)))
         }
         Kind::Lanes { cells } => {
             write_lanes(cells.as_slice(), inputs, outputs);

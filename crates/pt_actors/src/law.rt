@@ -6,19 +6,21 @@ ghost use Rattle.pt_semantics.specs.Laws.{law_value, nearest};
 ghost use Rattle.pt_actors.specs.Means.{HasMean};
 
 use crate::arithmetic::{difference, product, quotient};
+use pt_formula::value;
 use pt_types::Law;
 
 /// The value of a law for a and b. It is the value of a block with this law, and a guard holds if it is greater than 0.
-pub fn law_value(law: Law, a: i64, b: i64) -> i64
-    requires { IsTrue (law_in_range law) }
-    ensures { result ≡ law_value law a b }
+pub fn law_value(law: &Law, a: i64, b: i64) -> i64
+    requires { IsTrue (law_in_range law.now) }
+    ensures { result ≡ law_value law.now a b }
 {
     match law {
         Law::Least => a.min(b),
         Law::Greatest => a.max(b),
-        Law::Middle { low, high } => middle(low, high, a),
-        Law::Deadband { width } => deadband(width, a, b),
-        Law::Weighted { num, den } => weighted(num, den, a, b),
+        Law::Middle { low, high } => middle(*low, *high, a),
+        Law::Deadband { width } => deadband(*width, a, b),
+        Law::Weighted { num, den } => weighted(*num, *den, a, b),
+        Law::Formula(steps) => value(steps.as_slice(), a, b),
     }
 }
 

@@ -1,7 +1,7 @@
 //! The step of a machine.
 
 ghost use Rattle.std.specs.Ordering.{int_eq};
-ghost use Rattle.std.specs.Prelude.{◌≡◌, ◌&&◌, IsTrue, Some, int_le};
+ghost use Rattle.std.specs.Prelude.{◌≡◌, ◌&&◌, IsTrue, Some, int_le, option_map};
 ghost use Rattle.std.specs.List.{All};
 ghost use Rattle.pt_types.specs.Kinds.{guard_is_lawful};
 ghost use Rattle.pt_types.specs.Ports.{eight, when};
@@ -40,18 +40,18 @@ pub(crate) fn machine(
 }
 
 /// The first row that fits.
-fn fitting_row(
+fn fitting_row<'r>(
     blocks: Option<&Blocks>,
-    rows: &[MachineRow],
+    rows: &'r [MachineRow],
     state: i64,
     a: i64,
-) -> Option<MachineRow>
+) -> Option<&'r MachineRow>
     requires { All (λ (row : MachineRow). IsTrue (guard_is_lawful row.guard)) rows.now }
-    ensures { result ≡ first_of (row_fits state a) rows.now }
+    ensures { option_map (λ row. row.now) result ≡ first_of (row_fits state a) rows.now }
 {
     for row in rows {
         if row_fits(blocks, row, state, a) {
-            return Some(*row);
+            return Some(row);
         }
     }
     None
@@ -62,7 +62,7 @@ fn row_fits(blocks: Option<&Blocks>, row: &MachineRow, state: i64, a: i64) -> bo
     requires { IsTrue (guard_is_lawful row.now.guard) }
     ensures { when result (Some row.now) ≡ row_fits state a row.now }
 {
-    is_for(row, state, a) && guard_holds(blocks, row.guard, a, state)
+    is_for(row, state, a) && guard_holds(blocks, &row.guard, a, state)
 }
 
 /// Whether a row is for this state and its range has the value.
@@ -73,12 +73,12 @@ fn is_for(row: &MachineRow, state: i64, a: i64) -> bool
 }
 
 /// Whether a guard holds: its law gives more than 0 for the value and the state. A row without a guard can always be taken.
-fn guard_holds(blocks: Option<&Blocks>, guard: Option<(u32, Law)>, a: i64, state: i64) -> bool
-    requires { IsTrue (guard_is_lawful guard) }
-    ensures { result ≡ guard_holds guard a state }
+fn guard_holds(blocks: Option<&Blocks>, guard: &Option<(u32, Law)>, a: i64, state: i64) -> bool
+    requires { IsTrue (guard_is_lawful guard.now) }
+    ensures { result ≡ guard_holds guard.now a state }
 {
     match guard {
-        Some((number, law)) => 0 < block_value(blocks, number, law, a, state),
+        Some((number, law)) => 0 < block_value(blocks, *number, law, a, state),
         None => true,
     }
 }

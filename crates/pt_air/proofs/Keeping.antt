@@ -19,7 +19,8 @@ use Rattle.pt_air.specs.declared.row.AirRow.{AirRow}
 use Rattle.pt_air.specs.declared.row.Subject.{Subject}
 use Rattle.pt_air.specs.declared.row.Subject.TheVariants as subject
 use Rattle.pt_air.specs.AirOf.{air_with, lag_in, lags_of, time_of, row_transits}
-use Rattle.pt_air.specs.Bounds.{KeepsBounds, apart_on, breach_of, breaks, breaks_error, error_on, is_link_of, time_breaks}
+use Rattle.pt_air.specs.Bounds.{breach_of, breaks, breaks_error, is_link_of, time_breaks}
+use Rattle.pt_semantics.specs.RecordedTimes.{KeepsBounds, apart_on, error_on}
 use Rattle.pt_air.specs.Rows.{is_lag_of, is_link, is_subject, is_transit_on}
 
 none_from : {X : Type 0} (p : X → Bool) (k : ℕ) (xs : List X) → position_from p k xs ≡ None → Each (λ x. p x ≡ false) xs

@@ -7,7 +7,7 @@ use Rattle.csv.specs.declared.parser.State.{State}
 use Rattle.csv.specs.declared.parser.State.TheVariants as st
 use Rattle.pt_types.specs.declared.graph.Graph.{Graph}
 use Rattle.pt_sensors.specs.RowsOf.{next}
-use Rattle.pt_air.specs.declared.air.Air.{Air}
+use Rattle.pt_types.specs.declared.air.Air.{Air}
 use Rattle.pt_air.specs.declared.fault.AirFault.{AirFault}
 use Rattle.pt_air.specs.declared.fault.AirFault.TheVariants as fault
 use Rattle.pt_air.specs.declared.row.AirRow.{AirRow}

@@ -3,9 +3,11 @@
 ghost use Rattle.std.specs.Prelude.{◌≡◌, ◌<◌, ◌≤◌, false, length, nat_lt, option_map, position, slice_get, slice_index, unwrap_or};
 ghost use Rattle.std.specs.List.{list_any};
 ghost use Rattle.pt_types.specs.declared.graph.Link.{Link};
-ghost use Rattle.pt_air.specs.Bounds.{apart_on, breach_of, breaks, breaks_error, error_on, is_link_of};
+ghost use Rattle.pt_air.specs.Bounds.{breach_of, breaks, breaks_error, is_link_of};
+ghost use Rattle.pt_semantics.specs.RecordedTimes.{apart_on, error_on};
 
 use crate::row::{AirRow, Subject};
+use pt_tags::Time;
 use pt_types::{Graph, Link};
 
 /// The number, from 1, of the first row that breaks a stated bound, by the lags of all platforms.
@@ -78,7 +80,7 @@ fn lag_at(lags: &[u64], platform: u32) -> u64
 }
 
 /// Whether a message took longer than the delay of its link.
-fn transit_breaks(graph: &Graph, link: usize, time: u64) -> bool
+fn transit_breaks(graph: &Graph, link: usize, time: Time) -> bool
     ensures { result ≡ unwrap_or (option_map (λ (l : Link). nat_lt l.delay time) (slice_get graph.now.links link)) false }
 {
     match graph.links.as_slice().get(link) {

@@ -8,7 +8,6 @@
 //! Read first: `read_air` with `specs/Rows.antt`, then `specs/Bounds.antt`.
 #![tactic(auto)]
 
-mod air;
 mod breach;
 mod fault;
 mod lines;
@@ -17,7 +16,6 @@ mod record;
 mod row;
 mod times;
 
-pub use air::Air;
 pub use fault::AirFault;
 pub use lines::fault_line;
-pub use reader::{MOST_BYTES, read_air};
+pub use reader::{MOST_AIR_BYTES, read_air};

@@ -6,9 +6,8 @@ ghost use Rattle.csv.specs.Reading.{reader_state};
 ghost use Rattle.csv.specs.Records.{fields_of};
 ghost use Rattle.pt_sensors.specs.Rows.{IsPlain, bytes_left};
 ghost use Rattle.pt_air.specs.AirOf.{GivesAir, air_of, air_with, air_rows_from, air_rows_of};
-ghost use Rattle.pt_air.specs.Bounds.{KeepsBounds};
+ghost use Rattle.pt_semantics.specs.RecordedTimes.{KeepsBounds};
 
-use crate::air::Air;
 use crate::breach::breach_of;
 use crate::fault::AirFault;
 use crate::record::{is_header, row};
@@ -17,11 +16,11 @@ use crate::times::{lags_of, transits_of};
 use csv::{ByteRecord, Reader};
 use pt_sensors::{advance, reader_of};
 use pt_tags::{List, Memory};
-use pt_types::Graph;
+use pt_types::{Air, Graph};
 use std::alloc::Global;
 
 /// The most bytes of an air file.
-pub const MOST_BYTES: usize = 8_388_608;
+pub const MOST_AIR_BYTES: usize = 8_388_608;
 
 /// The most rows of an air file.
 const MOST_ROWS: u32 = 100_000;
@@ -30,6 +29,10 @@ const MOST_ROWS: u32 = 100_000;
 ///
 /// Faults are looked for in the order in which `AirFault` lists them: first those of the file and its header,
 /// then row by row. (The format is this project's own choice.)
+///
+/// After the header `what,name,value` the rows `lag,q,35`, `transit,w,312` and `transit,w,298` say that the clock of platform q is
+/// 35 us behind, and that the first two messages of sender w take 312 us and 298 us. A row `transit,q,5` is `Unknown`: q is no
+/// sender.
 pub fn read_air(alloc: Global, bytes: &[u8], graph: &Graph) -> Result<Air, AirFault>
     ensures air { GivesAir (air_of graph.now bytes.now) result }
     ensures lengths { IfOk result (λ air. (length air.lags ≡ length graph.now.platforms) × (length air.transits ≡ length graph.now.links)) }
@@ -61,7 +64,7 @@ fn air_with(alloc: Global, graph: &Graph, rows: &[AirRow]) -> Result<Air, Memory
 fn rows_of(alloc: Global, bytes: &[u8], graph: &Graph) -> Result<List<AirRow>, AirFault>
     ensures { GivesAir (air_rows_of graph.now bytes.now) result }
 {
-    if bytes.len() > MOST_BYTES {
+    if bytes.len() > MOST_AIR_BYTES {
         return Err(AirFault::TooLong);
     }
     let mut reader = reader_of(alloc, bytes);

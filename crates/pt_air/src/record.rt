@@ -11,10 +11,7 @@ use crate::fault::AirFault;
 use crate::row::{AirRow, Subject};
 use csv::ByteRecord;
 use pt_sensors::{cells, limited};
-use pt_types::Graph;
-
-/// The longest lag or transit, in microseconds.
-const MOST_TIME: u64 = 1_000_000_000_000_000;
+use pt_types::{Graph, MOST_TIME};
 
 /// The three fields of a record.
 type Cells<'a> = (&'a [u8], &'a [u8], &'a [u8]);

@@ -1,4 +1,4 @@
--- The verdict after a replay.
+-- The verdict after a verification.
 use Rattle.std.proofs.Common.{◌≡◌, ℕ, ◌+◌, ◌≤◌, List, ◌++◌, Option, Some, None, sym, ap, subst, ◌∙◌, arith, length, take, drop}
 use Rattle.std.proofs.Math.Seq.{take-append_seam}
 use Rattle.std.specs.Prelude.{◌-◌, MatchOption}
@@ -10,11 +10,11 @@ use Rattle.pt_causality.specs.Ranked.{level_of}
 use Rattle.pt_offsets.specs.Plans.{Parts}
 use Rattle.pt_turn.specs.Platforms.{PlatformView}
 use Rattle.pt_confluence.specs.Gathered.{HaveFinished}
-use Rattle.pt_hints.specs.Lines.{Block, blocks_from, text_lines}
-use Rattle.pt_hints.specs.Places.{IsLogAt}
+use Rattle.pt_audit.specs.Parsing.Lines.{Block, blocks_from, text_lines}
+use Rattle.pt_audit.specs.Parsing.Places.{IsLogAt}
 use Rattle.pt_audit.specs.Finishing.{IsFinalVerdict}
-use Rattle.pt_audit.specs.LawfulLogs.{most_bytes}
-use Rattle.pt_audit.specs.Replaying.{HaveReplayed}
+use Rattle.pt_types.specs.Limits.{most_log_bytes}
+use Rattle.pt_audit.specs.Verifying.{AreVerified}
 use Rattle.pt_audit.specs.Verdicts.{HasLog, IsVerdict, IsVerdictOn, StopsAt}
 use Rattle.pt_audit.specs.declared.order.Order.{Order}
 use Rattle.pt_audit.specs.declared.verdict.Verdict.{Verdict}
@@ -30,9 +30,9 @@ pub rest_of : (xs : List ℕ) (n : ℕ) → take (length xs - n) (drop n xs) ≡
 rest_of xs n = take_all (length xs - n) (drop n xs) (omega (arith, length-drop n xs))
 
 module _ (plan : Parts) (rows : ℕ → List Row) (blocks : List Block) (order : Order) (last : List (Option Message)) (platforms : List PlatformView) where
-  -- what is known where the replay stopped at a line, or didn't
+  -- what is known where the verification stopped at a line, or didn't
   abbrev pub Stopped : Option ℕ → Type 0
-  Stopped stop = MatchOption stop (HaveReplayed plan rows blocks order last platforms) (λ line. StopsAt plan.graph (level_of plan.ranks) rows line blocks)
+  Stopped stop = MatchOption stop (AreVerified plan rows blocks order last platforms) (λ line. StopsAt plan.graph (level_of plan.ranks) rows line blocks)
 
   abbrev pub After : Verdict → Option ℕ → Type 0
   After v stop = MatchOption stop (IsFinalVerdict plan.graph platforms v) (λ line. v ≡ Turn line)
@@ -49,7 +49,7 @@ module _ (plan : Parts) (rows : ℕ → List Row) (blocks : List Block) (order :
       other line e = cc
 
 -- the verdict on a log is that on its file
-pub verdict_on_file : (plan : Parts) (rows : ℕ → List Row) (bytes : List ℕ) (place line : ℕ) (v : Verdict) → length bytes ≤ most_bytes → IsLogAt bytes place line → IsVerdictOn plan rows (blocks_from (line + 1) (text_lines (drop (place + 4) bytes))) v → IsVerdict plan rows bytes v
+pub verdict_on_file : (plan : Parts) (rows : ℕ → List Row) (bytes : List ℕ) (place line : ℕ) (v : Verdict) → length bytes ≤ most_log_bytes → IsLogAt bytes place line → IsVerdictOn plan rows (blocks_from (line + 1) (text_lines (drop (place + 4) bytes))) v → IsVerdict plan rows bytes v
 verdict_on_file plan rows bytes place line v short at h = by v h
   where
     has : (w : Verdict) → IsVerdictOn plan rows (blocks_from (line + 1) (text_lines (drop (place + 4) bytes))) w → HasLog bytes (λ blocks. IsVerdictOn plan rows blocks w)

@@ -4,7 +4,7 @@ use Rattle.std.specs.Prelude.{if◌then◌else◌}
 use Rattle.std.proofs.lemmas.Bool.{eq-eqb, eqb-true, false≢true}
 use Rattle.pt_semantics.specs.History.{AreJoined}
 use Rattle.pt_semantics.specs.Turn.{Turn, is_quiet}
-use Rattle.pt_audit.specs.Replaying.{fresh_order, is_joined, quiet_count, with_turn, with_turns}
+use Rattle.pt_audit.specs.Verifying.{fresh_order, is_joined, quiet_count, with_turn, with_turns}
 use Rattle.pt_audit.specs.declared.order.Order.{Order}
 
 pub with_turns_push : (turns : List Turn) (turn : Turn) (order : Order) → with_turns (turns ++ turn ∷ []) order ≡ with_turn (quiet_count turn) (with_turns turns order)

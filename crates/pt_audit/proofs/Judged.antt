@@ -1,4 +1,4 @@
--- The verdict on a log that was replayed to its end.
+-- The verdict on a log that was verified to its end.
 use Rattle.std.proofs.Common.{◌≡◌, ℕ, zero, suc, ◌<◌, List, [], ◌∷◌, Option, Some, refl, sym, ap, subst, ◌∙◌, arith, length, slice_get}
 use Rattle.std.specs.Prelude.{option_map, unwrap_or}
 use Rattle.std.proofs.lemmas.Option.{slice_get_within}
@@ -15,10 +15,10 @@ use Rattle.pt_offsets.specs.Plans.{Parts}
 use Rattle.pt_turn.specs.All.{histories_of}
 use Rattle.pt_turn.specs.Platforms.{PlatformView, state_at}
 use Rattle.pt_confluence.specs.Gathered.{HaveFinished}
-use Rattle.pt_hints.specs.Lines.{Block}
+use Rattle.pt_audit.specs.Parsing.Lines.{Block}
 use Rattle.pt_audit.specs.Finishing.{AreAtEnd, IsAtEnd, IsFinalVerdict}
-use Rattle.pt_audit.specs.Replaying.{HasMadeTold, HaveReplayed}
-use Rattle.pt_audit.specs.Told.{AreLawful, BlocksAreLawful, turns_of}
+use Rattle.pt_audit.specs.Verifying.{HasMadeLogged, AreVerified}
+use Rattle.pt_audit.specs.Logged.{AreLawful, BlocksAreLawful, turns_of}
 use Rattle.pt_audit.specs.Verdicts.{AllAreFinished, IsLinked, IsVerdictOn}
 use Rattle.pt_audit.specs.declared.order.Order.{Order}
 use Rattle.pt_audit.specs.declared.verdict.Verdict.{Verdict}
@@ -30,7 +30,7 @@ member [] i lt = absurd (omega arith)
 member (x ∷ xs) zero lt = (x, refl)
 member (x ∷ xs) (suc i) lt = member xs i (omega arith)
 
-module _ (plan : Parts) (rows : ℕ → List Row) (blocks : List Block) (order : Order) (last : List (Option Message)) (platforms : List PlatformView) (r : HaveReplayed plan rows blocks order last platforms) where
+module _ (plan : Parts) (rows : ℕ → List Row) (blocks : List Block) (order : Order) (last : List (Option Message)) (platforms : List PlatformView) (r : AreVerified plan rows blocks order last platforms) where
   -- the platform of a number
   view : (i : ℕ) → i < length plan.graph.platforms → (v : PlatformView) × (slice_get platforms i ≡ Some v)
   view i lt = member platforms i (subst (λ n. i < n) (sym r.all.count) lt)
@@ -45,17 +45,17 @@ module _ (plan : Parts) (rows : ℕ → List Row) (blocks : List Block) (order :
   ends_at : (i : ℕ) (v : PlatformView) → slice_get platforms i ≡ Some v → ends i ≡ state_at v
   ends_at i v at = ap (λ (o : Option PlatformView). unwrap_or (option_map state_at o) (opened plan.graph i rows)) at
 
-  legal : (i : ℕ) → i < length plan.graph.platforms → IsLegal plan.graph (level_of plan.ranks) i rows (turns_of i r.told) (ends i)
+  legal : (i : ℕ) → i < length plan.graph.platforms → IsLegal plan.graph (level_of plan.ranks) i rows (turns_of i r.logged) (ends i)
   legal i lt =
       let (v, at) = view i lt in
-      let made : HasMadeTold plan.graph (level_of plan.ranks) i rows v (turns_of i r.told) = r.made i v at in
-      subst (λ (s : State). IsLegal plan.graph (level_of plan.ranks) i rows (turns_of i r.told) s) (sym (ends_at i v at)) (record { leads = made.leads; counted = made.counted; joined = made.joined })
+      let made : HasMadeLogged plan.graph (level_of plan.ranks) i rows v (turns_of i r.logged) = r.made i v at in
+      subst (λ (s : State). IsLegal plan.graph (level_of plan.ranks) i rows (turns_of i r.logged) s) (sym (ends_at i v at)) (record { leads = made.leads; counted = made.counted; joined = made.joined })
 
-  pub lawful : AreLawful plan.graph (level_of plan.ranks) rows r.told ends
+  pub lawful : AreLawful plan.graph (level_of plan.ranks) rows r.logged ends
   lawful = record { in_order = r.in_order; legal = legal }
 
-  pub tells : BlocksAreLawful plan.graph (level_of plan.ranks) rows blocks
-  tells = (r.told, ends, r.are_told, lawful)
+  pub are_lawful : BlocksAreLawful plan.graph (level_of plan.ranks) rows blocks
+  are_lawful = (r.logged, ends, r.are_logged, lawful)
 
   -- finished platforms
 
@@ -81,18 +81,18 @@ module _ (plan : Parts) (rows : ℕ → List Row) (blocks : List Block) (order :
   history_at : (i : ℕ) (v : PlatformView) → slice_get platforms i ≡ Some v → histories_of platforms i ≡ v.turns
   history_at i v at = ap (λ (o : Option PlatformView). unwrap_or (option_map (λ (z : PlatformView). z.turns) o) []) at
 
-  sent_same : (i l : ℕ) → i < length plan.graph.platforms → all_sent l (histories_of platforms i) ≡ all_sent l (turns_of i r.told)
+  sent_same : (i l : ℕ) → i < length plan.graph.platforms → all_sent l (histories_of platforms i) ≡ all_sent l (turns_of i r.logged)
   sent_same i l lt = let (v, at) = view i lt in ap (all_sent l) (history_at i v at) ∙ (r.made i v at).sent l
 
-  taken_same : (i l : ℕ) → i < length plan.graph.platforms → all_taken l (histories_of platforms i) ≡ all_taken l (turns_of i r.told)
+  taken_same : (i l : ℕ) → i < length plan.graph.platforms → all_taken l (histories_of platforms i) ≡ all_taken l (turns_of i r.logged)
   taken_same i l lt = let (v, at) = view i lt in ap (all_taken l) (history_at i v at) ∙ (r.made i v at).taken l
 
-  linked_told : (l : ℕ) → IsLinked plan.graph (histories_of platforms) l → IsLinked plan.graph (λ i. turns_of i r.told) l
-  linked_told l h link at =
+  linked_logged : (l : ℕ) → IsLinked plan.graph (histories_of platforms) l → IsLinked plan.graph (λ i. turns_of i r.logged) l
+  linked_logged l h link at =
       sym (sent_same (platform_of plan.graph link.from) l (homes link.from)) ∙ h link at ∙ taken_same (platform_of plan.graph link.to) l (homes link.to)
 
-  told_linked : (l : ℕ) → IsLinked plan.graph (λ i. turns_of i r.told) l → IsLinked plan.graph (histories_of platforms) l
-  told_linked l h link at =
+  logged_linked : (l : ℕ) → IsLinked plan.graph (λ i. turns_of i r.logged) l → IsLinked plan.graph (histories_of platforms) l
+  logged_linked l h link at =
       sent_same (platform_of plan.graph link.from) l (homes link.from) ∙ h link at ∙ sym (taken_same (platform_of plan.graph link.to) l (homes link.to))
 
   pub judged : (v : Verdict) → IsFinalVerdict plan.graph platforms v → IsVerdictOn plan rows blocks v
@@ -103,9 +103,9 @@ module _ (plan : Parts) (rows : ℕ → List Row) (blocks : List Block) (order :
   judged (Unfinished number) h =
       let here : number ≡ h.place = h.is ∙ r.all.numbers h.place h.view h.at in
       record {
-        told = r.told;
+        logged = r.logged;
         ends = ends;
-        are_told = r.are_told;
+        are_logged = r.are_logged;
         lawful = lawful;
         fact = record {
           platform = subst (λ n. n < length plan.graph.platforms) (sym here) (below h.place h.view h.at);
@@ -121,18 +121,18 @@ module _ (plan : Parts) (rows : ℕ → List Row) (blocks : List Block) (order :
       before : (a b c : ℕ) → a < b → b < c → a < c
       before a b c h k = omega (arith, h, k)
   judged (Unlinked l) h = record {
-    told = r.told;
+    logged = r.logged;
     ends = ends;
-    are_told = r.are_told;
+    are_logged = r.are_logged;
     lawful = lawful;
-    fact = (finished h.0, record { link = h.1.link; unlinked = λ f. h.1.unlinked (told_linked l f); first = λ k lt. linked_told k (h.1.first k lt) });
+    fact = (finished h.0, record { link = h.1.link; unlinked = λ f. h.1.unlinked (logged_linked l f); first = λ k lt. linked_logged k (h.1.first k lt) });
   }
   judged Fine h = record {
-    told = r.told;
+    logged = r.logged;
     ends = ends;
-    are_told = r.are_told;
+    are_logged = r.are_logged;
     lawful = lawful;
-    fact = (finished h.0, λ l. linked_told l (h.1 l));
+    fact = (finished h.0, λ l. linked_logged l (h.1 l));
   }
 
   pub all_finished : FitRows plan.graph rows → (v : Verdict) → IsFinalVerdict plan.graph platforms v → v ≡ Fine → HaveFinished plan rows platforms

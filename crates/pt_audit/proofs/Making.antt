@@ -1,4 +1,4 @@
--- A platform after one more told turn.
+-- A platform after one more logged turn.
 use Rattle.std.proofs.Common.{◌≡◌, ℕ, Bool, false, List, [], ◌∷◌, ◌++◌, Option, Some, None, refl, sym, ap, subst, ◌∙◌, append-nil, append_assoc}
 use Rattle.std.specs.Prelude.{flat_map}
 use Rattle.std.proofs.lemmas.Grind.{flat_map-append}
@@ -21,11 +21,11 @@ use Rattle.pt_turn.specs.Turned.{FaultsIfLast, is_late}
 use Rattle.pt_turn.specs.declared.fault.TurnFault.{TurnFault}
 use Rattle.pt_turn.proofs.Coming.{on_append}
 use Rattle.pt_turn.proofs.Turns.{goes_on_push, legal_push, messages_more}
-use Rattle.pt_hints.specs.declared.hints.Hints.{Hints}
-use Rattle.pt_retell.specs.Retold.{HasRetold, at_last}
-use Rattle.pt_audit.specs.Replaying.{HasMadeTold}
+use Rattle.pt_audit.specs.declared.parse.hints.Hints.{Hints}
+use Rattle.pt_audit.specs.Remaking.Remade.{HasRemade, at_last}
+use Rattle.pt_audit.specs.Verifying.{HasMadeLogged}
 use Rattle.pt_audit.proofs.OneState.{turn_same, turn_state}
-use Rattle.pt_audit.proofs.ToldTurns.{each_push}
+use Rattle.pt_audit.proofs.LoggedTurns.{each_push}
 
 -- Messages.
 
@@ -56,7 +56,7 @@ pub record Step (g : Graph) (level : ℕ → ℕ) (i : ℕ) (s : State) (turn : 
   pub is : IsTurn g level i s turn (is_late fault) new
   pub last : FaultsIfLast fault (IsLast g s turn.last (is_late fault) is.ready)
 
-pub step_of : (plan : Parts) (i : ℕ) (hints : Hints) (old new : PlatformView) → old.plan ≡ plan → old.number ≡ i → (h : HasRetold hints old new) → Step plan.graph (level_of plan.ranks) i (state_at old) h.turn new.fault (state_at new)
+pub step_of : (plan : Parts) (i : ℕ) (hints : Hints) (old new : PlatformView) → old.plan ≡ plan → old.number ≡ i → (h : HasRemade hints old new) → Step plan.graph (level_of plan.ranks) i (state_at old) h.turn new.fault (state_at new)
 step_of plan i hints old new plan_is number_is h =
     let here : Step old.plan.graph (level_at old) old.number (state_at old) h.turn new.fault (state_at new) = record { is = h.is; last = h.last } in
     subst (λ n. Step plan.graph (level_of plan.ranks) n (state_at old) h.turn new.fault (state_at new)) number_is
@@ -74,7 +74,7 @@ last_over g level i s mid new end (x ∷ turns) turn next late h is last (slow, 
     last_over g level i h.0 mid new end turns turn next late h.3 is last (subst (λ (z : State). Legal g level i z (turns ++ turn ∷ next ∷ []) end) (sym (turn_state g level i s x false slow h.0 mid2 h.1 is2).1) rest)
 
 -- one more turn
-module _ (g : Graph) (level : ℕ → ℕ) (i : ℕ) (rows : ℕ → List Row) (old new : PlatformView) (turns : List Turn) (turn : Turn) (h : HasMadeTold g level i rows old turns) (faultless : old.fault ≡ None)
+module _ (g : Graph) (level : ℕ → ℕ) (i : ℕ) (rows : ℕ → List Row) (old new : PlatformView) (turns : List Turn) (turn : Turn) (h : HasMadeLogged g level i rows old turns) (faultless : old.fault ≡ None)
     (step : Step g level i (state_at old) turn new.fault (state_at new)) (kept : new.turns ≡ kept_with old.turns (at_last turn)) (counted : IsCounted turn) (joined : AreJoined (turns ++ turn ∷ [])) where
   goes : GoesOn g level i (opened g i rows) turns (state_at old)
   goes = h.goes_on faultless
@@ -92,7 +92,7 @@ module _ (g : Graph) (level : ℕ → ℕ) (i : ℕ) (rows : ℕ → List Row) (
       last_over g level i (opened g i rows) (state_at old) (state_at new) end turns turn next (is_late (Some fault)) goes s.is s.last
       (subst (λ (ts : List Turn). Legal g level i (opened g i rows) ts end) (append_assoc turns (turn ∷ []) (next ∷ [])) legal)
 
-  pub made_more : HasMadeTold g level i rows new (turns ++ turn ∷ [])
+  pub made_more : HasMadeLogged g level i rows new (turns ++ turn ∷ [])
   made_more = record {
     goes_on = on_by new.fault step;
     leads = legal_push g level i (opened g i rows) (state_at old) (state_at new) turns turn (is_late new.fault) goes step.is;

@@ -19,9 +19,9 @@ use Rattle.pt_semantics.specs.Taking.{IsOnTime, Takes, after_message, with_taken
 use Rattle.pt_semantics.specs.Turn.{IsTurn, Turn}
 use Rattle.pt_semantics.specs.Wired.{IsWired}
 use Rattle.pt_laws.proofs.Home.{home_holds}
-use Rattle.pt_fixed_order.specs.Sound.{IsForeign, SendsNothingElse}
-use Rattle.pt_fixed_order.proofs.Sound.{Own, turn_own}
-use Rattle.pt_audit.proofs.ToldTurns.{same_number}
+use Rattle.pt_fixed_order_laws.specs.Sound.{IsForeign, SendsNothingElse}
+use Rattle.pt_fixed_order_laws.proofs.Sound.{Own, turn_own}
+use Rattle.pt_audit.proofs.LoggedTurns.{same_number}
 
 -- a message is on a link of the graph
 abbrev pub IsOn : Graph → OnLink → Type 0

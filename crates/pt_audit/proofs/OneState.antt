@@ -13,7 +13,7 @@ use Rattle.pt_semantics.specs.Claiming.{Claims, after_claim}
 use Rattle.pt_semantics.specs.Closing.{Closes, Sends, on_link, unsent}
 use Rattle.pt_semantics.specs.History.{Legal}
 use Rattle.pt_semantics.specs.Turn.{IsLast, IsTurn, Turn}
-use Rattle.pt_schedule.proofs.SameTurn.{closes_one, posts_state, takes_state}
+use Rattle.pt_paced_laws.proofs.SameTurn.{closes_one, posts_state, takes_state}
 
 claims_state : (g : Graph) (r : ℕ) (tasks : List Task) (s a b : State) → Claims g r s tasks a → Claims g r s tasks b → a ≡ b
 claims_state g r [] s a b ea eb = ea ∙ sym eb

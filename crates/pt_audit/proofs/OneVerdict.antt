@@ -10,30 +10,30 @@ use Rattle.pt_semantics.specs.Platform.{State, opened}
 use Rattle.pt_semantics.specs.Turn.{Turn as Recorded}
 use Rattle.pt_causality.specs.Ranked.{level_of}
 use Rattle.pt_offsets.specs.Plans.{IsAdmitted, Parts}
-use Rattle.pt_hints.specs.Lines.{Block, at_log, blocks_from, text_lines}
-use Rattle.pt_audit.specs.Told.{AreLawful, BlocksAreLawful, ToldTurn, turns_of}
-use Rattle.pt_audit.specs.LawfulLogs.{most_bytes}
+use Rattle.pt_audit.specs.Parsing.Lines.{Block, at_log, blocks_from, text_lines}
+use Rattle.pt_audit.specs.Logged.{AreLawful, BlocksAreLawful, LoggedTurn, turns_of}
+use Rattle.pt_types.specs.Limits.{most_log_bytes}
 use Rattle.pt_audit.specs.Theorems.{VerdictsAreOne}
 use Rattle.pt_audit.specs.Verdicts.{AllAreFinished, HasLog, IsFirstUnfinished, IsFirstUnlinked, IsLinked, IsVerdict, IsVerdictOn, StopsAt, AllBlocksSay}
 use Rattle.pt_audit.specs.declared.verdict.Verdict.{Verdict}
 use Rattle.pt_audit.specs.declared.verdict.Verdict.TheVariants.{TooLong, NoLog, Turn, Unfinished, Unlinked, Table, Fine}
 use Rattle.pt_audit.proofs.OneState.{legal_state}
-use Rattle.pt_audit.proofs.ToldOnce.{told_once}
-use Rattle.pt_audit.proofs.ToldTurns.{before_ends, lawful_before, told_last}
+use Rattle.pt_audit.proofs.LoggedOnce.{logged_once}
+use Rattle.pt_audit.proofs.LoggedTurns.{before_ends, lawful_before, logged_last}
 
--- Blocks that tell turns, without the last ones.
+-- Blocks of lawful turns, without the last ones.
 
-tells_before : (g : Graph) (level : ℕ → ℕ) (rows : ℕ → List Row) (blocks : List Block) (b : Block) → BlocksAreLawful g level rows (blocks ++ b ∷ []) → BlocksAreLawful g level rows blocks
-tells_before g level rows blocks b (told, ends, are, lawful) =
-    let x = told_last g blocks b told are in
-    let whole : AreLawful g level rows (x.front ++ x.turn ∷ []) ends = subst (λ (ts : List ToldTurn). AreLawful g level rows ts ends) x.is lawful in
-    (x.front, before_ends g level rows x.front x.turn ends x.tellable.platform whole, x.before, lawful_before g level rows x.front x.turn ends x.tellable.platform whole)
+lawful_until : (g : Graph) (level : ℕ → ℕ) (rows : ℕ → List Row) (blocks : List Block) (b : Block) → BlocksAreLawful g level rows (blocks ++ b ∷ []) → BlocksAreLawful g level rows blocks
+lawful_until g level rows blocks b (logged, ends, are, lawful) =
+    let x = logged_last g blocks b logged are in
+    let whole : AreLawful g level rows (x.front ++ x.turn ∷ []) ends = subst (λ (ts : List LoggedTurn). AreLawful g level rows ts ends) x.is lawful in
+    (x.front, before_ends g level rows x.front x.turn ends x.loggable.platform whole, x.before, lawful_before g level rows x.front x.turn ends x.loggable.platform whole)
 
-pub tells_front : (g : Graph) (level : ℕ → ℕ) (rows : ℕ → List Row) (front : List Block) (b : Block) (more : List Block) → BlocksAreLawful g level rows (front ++ b ∷ more) → BlocksAreLawful g level rows (front ++ b ∷ [])
-tells_front g level rows front b [] h = h
-tells_front g level rows front b (c ∷ more) h =
-    let on : BlocksAreLawful g level rows ((front ++ b ∷ []) ++ c ∷ []) = tells_front g level rows (front ++ b ∷ []) c more (subst (BlocksAreLawful g level rows) (sym (append_assoc front (b ∷ []) (c ∷ more))) h) in
-    tells_before g level rows (front ++ b ∷ []) c on
+pub lawful_front : (g : Graph) (level : ℕ → ℕ) (rows : ℕ → List Row) (front : List Block) (b : Block) (more : List Block) → BlocksAreLawful g level rows (front ++ b ∷ more) → BlocksAreLawful g level rows (front ++ b ∷ [])
+lawful_front g level rows front b [] h = h
+lawful_front g level rows front b (c ∷ more) h =
+    let on : BlocksAreLawful g level rows ((front ++ b ∷ []) ++ c ∷ []) = lawful_front g level rows (front ++ b ∷ []) c more (subst (BlocksAreLawful g level rows) (sym (append_assoc front (b ∷ []) (c ∷ more))) h) in
+    lawful_until g level rows (front ++ b ∷ []) c on
 
 -- Two places in one list.
 
@@ -65,13 +65,13 @@ module _ (g : Graph) (level : ℕ → ℕ) (rows : ℕ → List Row) (blocks : L
       (λ (same : (s.before ≡ t.before) × (s.bad ≡ t.bad)). s.at ∙ ap (λ (b : Block). b.line) same.1 ∙ sym t.at)
       (λ (other : ((rest : List Block) × (t.before ≡ s.before ++ s.bad ∷ rest)) ⊎ ((rest : List Block) × (s.before ≡ t.before ++ t.bad ∷ rest))).
       ⊎_elim
-      (λ (one : (rest : List Block) × (t.before ≡ s.before ++ s.bad ∷ rest)). absurd (s.never (tells_front g level rows s.before s.bad one.0 (subst (BlocksAreLawful g level rows) one.1 t.tells))))
-      (λ (two : (rest : List Block) × (s.before ≡ t.before ++ t.bad ∷ rest)). absurd (t.never (tells_front g level rows t.before t.bad two.0 (subst (BlocksAreLawful g level rows) two.1 s.tells))))
+      (λ (one : (rest : List Block) × (t.before ≡ s.before ++ s.bad ∷ rest)). absurd (s.never (lawful_front g level rows s.before s.bad one.0 (subst (BlocksAreLawful g level rows) one.1 t.are_lawful))))
+      (λ (two : (rest : List Block) × (s.before ≡ t.before ++ t.bad ∷ rest)). absurd (t.never (lawful_front g level rows t.before t.bad two.0 (subst (BlocksAreLawful g level rows) two.1 s.are_lawful))))
       other)
       (places s.before t.before s.bad t.bad s.after t.after (sym s.is ∙ t.is))
 
-  pub stops_or_tells : (l : ℕ) → StopsAt g level rows l blocks → BlocksAreLawful g level rows blocks → ⊥
-  stops_or_tells l s h = s.never (tells_front g level rows s.before s.bad s.after (subst (BlocksAreLawful g level rows) s.is h))
+  pub stops_or_lawful : (l : ℕ) → StopsAt g level rows l blocks → BlocksAreLawful g level rows blocks → ⊥
+  stops_or_lawful l s h = s.never (lawful_front g level rows s.before s.bad s.after (subst (BlocksAreLawful g level rows) s.is h))
 
 -- The first of some numbers.
 
@@ -83,27 +83,27 @@ first_one P i j ni below_i nj below_j =
     (cases_lt i j)
 
 module _ (plan : Parts) (rows : ℕ → List Row) (blocks : List Block) (admitted : IsAdmitted plan) where
-  abbrev Told : ((ℕ → List Recorded) → (ℕ → State) → Type 0) → Type 0
-  Told Fact = AllBlocksSay plan.graph (level_of plan.ranks) rows blocks Fact
+  abbrev Logged : ((ℕ → List Recorded) → (ℕ → State) → Type 0) → Type 0
+  Logged Fact = AllBlocksSay plan.graph (level_of plan.ranks) rows blocks Fact
 
-  tells_of : (Fact : (ℕ → List Recorded) → (ℕ → State) → Type 0) → Told Fact → BlocksAreLawful plan.graph (level_of plan.ranks) rows blocks
-  tells_of Fact t = (t.told, t.ends, t.are_told, t.lawful)
+  lawful_of : (Fact : (ℕ → List Recorded) → (ℕ → State) → Type 0) → Logged Fact → BlocksAreLawful plan.graph (level_of plan.ranks) rows blocks
+  lawful_of Fact t = (t.logged, t.ends, t.are_logged, t.lawful)
 
-  module _ (Some_fact Other_fact : (ℕ → List Recorded) → (ℕ → State) → Type 0) (t : Told Some_fact) (u : Told Other_fact) where
-    pub same_told : t.told ≡ u.told
-    same_told = told_once plan.graph (level_of plan.ranks) rows admitted.lawful blocks t.told u.told t.ends u.ends t.are_told t.lawful u.are_told u.lawful
+  module _ (Some_fact Other_fact : (ℕ → List Recorded) → (ℕ → State) → Type 0) (t : Logged Some_fact) (u : Logged Other_fact) where
+    pub same_logged : t.logged ≡ u.logged
+    same_logged = logged_once plan.graph (level_of plan.ranks) rows admitted.lawful blocks t.logged u.logged t.ends u.ends t.are_logged t.lawful u.are_logged u.lawful
 
     pub same_end : (i : ℕ) → i < length plan.graph.platforms → t.ends i ≡ u.ends i
     same_end i lt =
         let theirs = u.lawful.legal i lt in
-        legal_state plan.graph (level_of plan.ranks) i (opened plan.graph i rows) (turns_of i t.told) (t.ends i) (u.ends i) (t.lawful.legal i lt).leads
-        (subst (λ (ts : List ToldTurn). Legal plan.graph (level_of plan.ranks) i (opened plan.graph i rows) (turns_of i ts) (u.ends i)) (sym same_told) theirs.leads)
+        legal_state plan.graph (level_of plan.ranks) i (opened plan.graph i rows) (turns_of i t.logged) (t.ends i) (u.ends i) (t.lawful.legal i lt).leads
+        (subst (λ (ts : List LoggedTurn). Legal plan.graph (level_of plan.ranks) i (opened plan.graph i rows) (turns_of i ts) (u.ends i)) (sym same_logged) theirs.leads)
 
     pub same_finished : (i : ℕ) → i < length plan.graph.platforms → IsFinished plan.graph i (u.ends i) → IsFinished plan.graph i (t.ends i)
     same_finished i lt h = subst (IsFinished plan.graph i) (sym (same_end i lt)) h
 
-    pub same_linked : (l : ℕ) → IsLinked plan.graph (λ i. turns_of i u.told) l → IsLinked plan.graph (λ i. turns_of i t.told) l
-    same_linked l h = subst (λ (ts : List ToldTurn). IsLinked plan.graph (λ i. turns_of i ts) l) (sym same_told) h
+    pub same_linked : (l : ℕ) → IsLinked plan.graph (λ i. turns_of i u.logged) l → IsLinked plan.graph (λ i. turns_of i t.logged) l
+    same_linked l h = subst (λ (ts : List LoggedTurn). IsLinked plan.graph (λ i. turns_of i ts) l) (sym same_logged) h
 
   abbrev Open : ℕ → (ℕ → List Recorded) → (ℕ → State) → Type 0
   Open i histories ends = IsFirstUnfinished plan.graph i ends
@@ -114,7 +114,7 @@ module _ (plan : Parts) (rows : ℕ → List Row) (blocks : List Block) (admitte
   abbrev Done : (ℕ → List Recorded) → (ℕ → State) → Type 0
   Done histories ends = AllAreFinished plan.graph ends × AreLinked plan.graph histories
 
-  open_once : (i j : ℕ) → Told (Open i) → Told (Open j) → i ≡ j
+  open_once : (i j : ℕ) → Logged (Open i) → Logged (Open j) → i ≡ j
   open_once i j t u =
       let a = t.fact in
       let b = u.fact in
@@ -123,20 +123,20 @@ module _ (plan : Parts) (rows : ℕ → List Row) (blocks : List Block) (admitte
       (λ (le : j ≤ i). ⊎_elim (λ (gt : j < i). absurd (b.unfinished (same_finished (Open j) (Open i) u t j b.platform (a.first j gt)))) (λ (ge : i ≤ j). omega (arith, le, ge)) (cases_lt j i))
       (cases_lt i j)
 
-  open_or : (i : ℕ) (Fact : (ℕ → List Recorded) → (ℕ → State) → Type 0) → Told (Open i) → (u : Told Fact) → AllAreFinished plan.graph u.ends → ⊥
+  open_or : (i : ℕ) (Fact : (ℕ → List Recorded) → (ℕ → State) → Type 0) → Logged (Open i) → (u : Logged Fact) → AllAreFinished plan.graph u.ends → ⊥
   open_or i Fact t u all = let a = t.fact in a.unfinished (same_finished (Open i) Fact t u i a.platform (all i a.platform))
 
-  apart_once : (l m : ℕ) → Told (Apart l) → Told (Apart m) → l ≡ m
+  apart_once : (l m : ℕ) → Logged (Apart l) → Logged (Apart m) → l ≡ m
   apart_once l m t u =
       let a = t.fact.1 in
       let b = u.fact.1 in
-      first_one (IsLinked plan.graph (λ i. turns_of i t.told)) l m a.unlinked a.first (λ h. b.unlinked (same_linked (Apart m) (Apart l) u t m h)) (λ k lt. same_linked (Apart l) (Apart m) t u k (b.first k lt))
+      first_one (IsLinked plan.graph (λ i. turns_of i t.logged)) l m a.unlinked a.first (λ h. b.unlinked (same_linked (Apart m) (Apart l) u t m h)) (λ k lt. same_linked (Apart l) (Apart m) t u k (b.first k lt))
 
-  apart_or_done : (l : ℕ) → Told (Apart l) → Told Done → ⊥
+  apart_or_done : (l : ℕ) → Logged (Apart l) → Logged Done → ⊥
   apart_or_done l t u = let a = t.fact.1 in a.unlinked (same_linked (Apart l) Done t u l (u.fact.1 l))
 
-  stops_not : (line : ℕ) (Fact : (ℕ → List Recorded) → (ℕ → State) → Type 0) → StopsAt plan.graph (level_of plan.ranks) rows line blocks → Told Fact → ⊥
-  stops_not line Fact s t = stops_or_tells plan.graph (level_of plan.ranks) rows blocks line s (tells_of Fact t)
+  stops_not : (line : ℕ) (Fact : (ℕ → List Recorded) → (ℕ → State) → Type 0) → StopsAt plan.graph (level_of plan.ranks) rows line blocks → Logged Fact → ⊥
+  stops_not line Fact s t = stops_or_lawful plan.graph (level_of plan.ranks) rows blocks line s (lawful_of Fact t)
 
   pub verdict_once : (v w : Verdict) → IsVerdictOn plan rows blocks v → IsVerdictOn plan rows blocks w → v ≡ w
   verdict_once TooLong w hv hw = absurd hv
@@ -165,7 +165,7 @@ module _ (plan : Parts) (rows : ℕ → List Row) (blocks : List Block) (admitte
 -- Whole files.
 
 -- a file that is too long has no other verdict
-too_long_only : (plan : Parts) (rows : ℕ → List Row) (bytes : List ℕ) → most_bytes < length bytes → (w : Verdict) → IsVerdict plan rows bytes w → w ≡ TooLong
+too_long_only : (plan : Parts) (rows : ℕ → List Row) (bytes : List ℕ) → most_log_bytes < length bytes → (w : Verdict) → IsVerdict plan rows bytes w → w ≡ TooLong
 too_long_only plan rows bytes long TooLong h = refl
 too_long_only plan rows bytes long NoLog h = absurd (omega (arith, long, h.0))
 too_long_only plan rows bytes long (Turn l) h = absurd (omega (arith, long, h.short))
@@ -175,7 +175,7 @@ too_long_only plan rows bytes long Table h = absurd (omega (arith, long, h.short
 too_long_only plan rows bytes long Fine h = absurd (omega (arith, long, h.short))
 
 -- nor has a file without a line `log`
-no_log_only : (plan : Parts) (rows : ℕ → List Row) (bytes : List ℕ) → length bytes ≤ most_bytes → at_log (text_lines bytes) ≡ None → (w : Verdict) → IsVerdict plan rows bytes w → w ≡ NoLog
+no_log_only : (plan : Parts) (rows : ℕ → List Row) (bytes : List ℕ) → length bytes ≤ most_log_bytes → at_log (text_lines bytes) ≡ None → (w : Verdict) → IsVerdict plan rows bytes w → w ≡ NoLog
 no_log_only plan rows bytes short none TooLong h = absurd (omega (arith, short, h))
 no_log_only plan rows bytes short none NoLog h = refl
 no_log_only plan rows bytes short none (Turn l) h = absurd (none_some (h.head, h.rest) (sym none ∙ h.lines))

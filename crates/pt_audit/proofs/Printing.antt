@@ -22,30 +22,31 @@ use Rattle.pt_tables.specs.Held.{IsHeldMessage, IsHeldTurn}
 use Rattle.pt_tables.specs.Log.{log_text}
 use Rattle.pt_tables.specs.Platforms.{histories}
 use Rattle.pt_confluence.specs.Gathered.{HaveFinished}
-use Rattle.pt_hints.specs.Hints.{IsTellable, IsTellableOn}
-use Rattle.pt_audit.specs.LawfulLogs.{IsLawfulLog, history_in, most_bytes}
+use Rattle.pt_audit.specs.Parsing.Hints.{IsLoggable, IsLoggableOn}
+use Rattle.pt_audit.specs.LawfulLogs.{IsLawfulLog, history_in}
+use Rattle.pt_types.specs.Limits.{most_log_bytes}
 use Rattle.pt_audit.specs.Theorems.{HaveLegal, PrintedLogsAreLawful}
 use Rattle.pt_audit.proofs.Judged.{member}
 use Rattle.pt_audit.proofs.OnLinks.{IsOn, IsOnLinks, on_links}
 
 -- a message that 64 bits hold, on a link of the graph
-tellable_on : (g : Graph) (xs : List OnLink) → Each (IsOn g) xs → Each IsHeldMessage xs → Each (IsTellableOn g) xs
-tellable_on g [] on held = tt
-tellable_on g (x ∷ xs) on held = (record { link = on.0; tag = held.0.tag; value = held.0.value }, tellable_on g xs on.1 held.1)
+loggable_on : (g : Graph) (xs : List OnLink) → Each (IsOn g) xs → Each IsHeldMessage xs → Each (IsLoggableOn g) xs
+loggable_on g [] on held = tt
+loggable_on g (x ∷ xs) on held = (record { link = on.0; tag = held.0.tag; value = held.0.value }, loggable_on g xs on.1 held.1)
 
-tellable : (g : Graph) (i : ℕ) (turns : List Turn) → i < length g.platforms → Each (IsOnLinks g) turns → Each IsHeldTurn turns → Each (IsTellable g i) turns
-tellable g i [] lt on held = tt
-tellable g i (t ∷ turns) lt on held = (
+loggable : (g : Graph) (i : ℕ) (turns : List Turn) → i < length g.platforms → Each (IsOnLinks g) turns → Each IsHeldTurn turns → Each (IsLoggable g i) turns
+loggable g i [] lt on held = tt
+loggable g i (t ∷ turns) lt on held = (
   record {
     platform = lt;
     first = held.0.first;
     last = held.0.last;
     count = held.0.count;
     posted = held.0.lists.posted;
-    taken = tellable_on g t.taken on.0.taken held.0.lists.taken;
-    sent = tellable_on g t.sent on.0.sent held.0.lists.sent;
+    taken = loggable_on g t.taken on.0.taken held.0.lists.taken;
+    sent = loggable_on g t.sent on.0.sent held.0.lists.sent;
   },
-  tellable g i turns lt on.1 held.1,
+  loggable g i turns lt on.1 held.1,
 )
 
 -- the history at a place
@@ -90,18 +91,18 @@ module _ (plan : Parts) (rows : ℕ → List Row) (platforms : List PlatformView
   finished_at : (i : ℕ) → i < length plan.graph.platforms → IsFinished plan.graph i (ends i)
   finished_at i lt = let (v, at) = view i lt in subst (IsFinished plan.graph i) (sym (ends_at i v at)) (finished.finished i v at)
 
-  held_at : (i : ℕ) → i < length plan.graph.platforms → Each (IsTellable plan.graph i) (history_in (histories platforms) i)
+  held_at : (i : ℕ) → i < length plan.graph.platforms → Each (IsLoggable plan.graph i) (history_in (histories platforms) i)
   held_at i lt =
       let (v, at) = view i lt in
-      subst (Each (IsTellable plan.graph i)) (sym (history_at i v at))
-      (tellable plan.graph i v.turns lt
+      subst (Each (IsLoggable plan.graph i)) (sym (history_at i v at))
+      (loggable plan.graph i v.turns lt
       (on_links plan.graph (level_of plan.ranks) i rows (wired plan.graph admitted.lawful) (levels_grow plan.graph (level_of plan.ranks) admitted.levels) finished.fit v.turns (state_at v) (legal i v at).leads)
       (each_history platforms i v at held))
 
   linked : AreLinked plan.graph (history_in (histories platforms))
   linked = let same : histories_of platforms ≡ history_in (histories platforms) = λ j i. sym (same_history platforms i) j in subst (AreLinked plan.graph) same finished.linked
 
-  lawful : IsMeaning plan.graph (rank_of plan.ranks) rows firings → bytes ≡ tables_text plan.graph firings ++ log_text plan.graph (histories platforms) → length bytes ≤ most_bytes → IsLawfulLog plan rows bytes
+  lawful : IsMeaning plan.graph (rank_of plan.ranks) rows firings → bytes ≡ tables_text plan.graph firings ++ log_text plan.graph (histories platforms) → length bytes ≤ most_log_bytes → IsLawfulLog plan rows bytes
   lawful meaning text short = record {
     short = short;
     histories = histories platforms;

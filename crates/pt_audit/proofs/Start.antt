@@ -19,8 +19,8 @@ use Rattle.pt_offsets.specs.Plans.{IsAdmitted, Parts}
 use Rattle.pt_turn.specs.All.{AreReady}
 use Rattle.pt_turn.specs.Platforms.{PlatformView, level_at, messages_of, rows_at, state_at}
 use Rattle.pt_confluence.specs.Gathered.{AreLegal}
-use Rattle.pt_retell.specs.Lasts.{last_of}
-use Rattle.pt_audit.specs.Replaying.{HasMadeTold, HaveReplayed, fresh_order}
+use Rattle.pt_audit.specs.Remaking.Lasts.{last_of}
+use Rattle.pt_audit.specs.Verifying.{HasMadeLogged, AreVerified, fresh_order}
 
 same_opened : (g : Graph) (i : ℕ) (some others : ℕ → List Row) → ((a : ℕ) → platform_of g a ≡ i → some a ≡ others a) → opened g i some ≡ opened g i others
 same_opened g i some others same =
@@ -47,7 +47,7 @@ module _ (plan : Parts) (rows : ℕ → List Row) (platforms : List PlatformView
       opening ∙ ap (λ (p : Parts). opened p.graph v.number (rows_at v)) (ready.all.plans i v at) ∙ ap (λ n. opened plan.graph n (rows_at v)) (ready.all.numbers i v at)
       ∙ same_opened plan.graph i (rows_at v) rows (λ a home. ready.all.opened i a v at home)
 
-  made : (i : ℕ) (v : PlatformView) → slice_get platforms i ≡ Some v → HasMadeTold plan.graph (level_of plan.ranks) i rows v []
+  made : (i : ℕ) (v : PlatformView) → slice_get platforms i ≡ Some v → HasMadeLogged plan.graph (level_of plan.ranks) i rows v []
   made i v at = record {
     goes_on = λ e. state_is i v at;
     leads = state_is i v at;
@@ -58,12 +58,12 @@ module _ (plan : Parts) (rows : ℕ → List Row) (platforms : List PlatformView
     taken = λ l. ap (all_taken l) (ready.fresh.turns i v at);
   }
 
-  pub starts : HaveReplayed plan rows [] (fresh_order 0) last platforms
+  pub starts : AreVerified plan rows [] (fresh_order 0) last platforms
   starts = record {
     admitted = admitted;
     all = ready.all;
-    told = [];
-    are_told = tt;
+    logged = [];
+    are_logged = tt;
     in_order = tt;
     up_to = tt;
     reached = λ i h. omega arith;

@@ -5,7 +5,7 @@ use Rattle.std.specs.List.{concat}
 use Rattle.std.proofs.lemmas.Slice.Eq.{bytes_eq-Decides}
 use Rattle.pt_semantics.proofs.Lookups.{none_some, same_some}
 use Rattle.pt_tables.specs.Log.{log_head}
-use Rattle.pt_hints.specs.Lines.{at_log}
+use Rattle.pt_audit.specs.Parsing.Lines.{at_log}
 
 abbrev Parts : Type 0
 Parts = List (List ℕ) × List (List ℕ)

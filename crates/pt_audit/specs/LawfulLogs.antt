@@ -1,5 +1,6 @@
 -- What a log must be: the tables of the meaning, and then the log of finished platforms that took all that was sent.
 use Rattle.std.specs.Prelude.{◌≡◌, ◌<◌, ◌≤◌, ◌++◌, [], ℕ, List, length, slice_index_or}
+use Rattle.pt_types.specs.Limits.{most_log_bytes}
 use Rattle.pt_types.specs.declared.firing.ActorFiring.{ActorFiring}
 use Rattle.pt_types.specs.declared.rows.Row.{Row}
 use Rattle.pt_semantics.specs.History.{IsLegal}
@@ -12,11 +13,7 @@ use Rattle.pt_semantics.specs.Turn.{Turn}
 use Rattle.pt_causality.specs.Ranked.{level_of, rank_of}
 use Rattle.pt_offsets.specs.Plans.{Parts}
 use Rattle.pt_tables.specs.Log.{log_text}
-use Rattle.pt_hints.specs.Hints.{IsTellable}
-
--- the most bytes that a file may have
-abbrev pub most_bytes : ℕ
-most_bytes = 67108864
+use Rattle.pt_audit.specs.Parsing.Hints.{IsLoggable}
 
 -- the history of platform i; none past the last
 abbrev pub history_in : List (List Turn) → ℕ → List Turn
@@ -24,7 +21,7 @@ history_in histories i = slice_index_or histories i []
 
 -- the file is a lawful log of this plan over these rows
 pub record IsLawfulLog (plan : Parts) (rows : ℕ → List Row) (bytes : List ℕ) : Type 0 where
-  pub short : length bytes ≤ most_bytes
+  pub short : length bytes ≤ most_log_bytes
   -- each platform of the graph has a legal history that leads to a state in which it is finished
   pub histories : List (List Turn)
   pub all : length histories ≡ length plan.graph.platforms
@@ -34,7 +31,7 @@ pub record IsLawfulLog (plan : Parts) (rows : ℕ → List Row) (bytes : List �
   -- on each link all that was sent was taken
   pub linked : AreLinked plan.graph (history_in histories)
   -- 64 bits hold the numbers in the turns, also the values of messages
-  pub held : (i : ℕ) → i < length plan.graph.platforms → Each (IsTellable plan.graph i) (history_in histories i)
+  pub held : (i : ℕ) → i < length plan.graph.platforms → Each (IsLoggable plan.graph i) (history_in histories i)
   -- the text is the tables of the meaning and the log of these histories
   pub firings : List ActorFiring
   pub meaning : IsMeaning plan.graph (rank_of plan.ranks) rows firings

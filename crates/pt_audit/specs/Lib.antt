@@ -1,7 +1,9 @@
-pub mod LawfulLogs
-pub mod Told
-pub mod Verdicts
-pub mod Replaying
-pub mod Retelling
 pub mod Finishing
+pub mod FromText
+pub mod LawfulLogs
+pub mod Logged
+pub mod Parsing
+pub mod Remaking
 pub mod Theorems
+pub mod Verdicts
+pub mod Verifying

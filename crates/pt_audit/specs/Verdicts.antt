@@ -11,38 +11,38 @@ use Rattle.pt_semantics.specs.Turn.{Turn as Recorded}
 use Rattle.pt_causality.specs.Ranked.{level_of}
 use Rattle.pt_offsets.specs.Plans.{Parts}
 use Rattle.pt_confluence.specs.Gathered.{AreTables}
-use Rattle.pt_hints.specs.Lines.{Block, at_log, blocks_from, text_lines}
-use Rattle.pt_hints.specs.Places.{IsLogAt}
-use Rattle.pt_audit.specs.LawfulLogs.{most_bytes}
-use Rattle.pt_audit.specs.Told.{AreLawful, AreTold, BlocksAreLawful, ToldTurn, turns_of}
+use Rattle.pt_audit.specs.Parsing.Lines.{Block, at_log, blocks_from, text_lines}
+use Rattle.pt_audit.specs.Parsing.Places.{IsLogAt}
+use Rattle.pt_types.specs.Limits.{most_log_bytes}
+use Rattle.pt_audit.specs.Logged.{AreLawful, AreLogged, BlocksAreLawful, LoggedTurn, turns_of}
 use Rattle.pt_audit.specs.declared.verdict.Verdict.{Verdict}
 use Rattle.pt_audit.specs.declared.verdict.Verdict.TheVariants.{TooLong, NoLog, Turn, Unfinished, Unlinked, Fine}
 
 -- a file that is not too long and has a line `log`: the lines before it, and the blocks of the lines after it
 pub record HasLog (bytes : List ℕ) (Fact : List Block → Type 0) : Type 0 where
-  pub short : length bytes ≤ most_bytes
+  pub short : length bytes ≤ most_log_bytes
   pub head : List (List ℕ)
   pub rest : List (List ℕ)
   pub lines : at_log (text_lines bytes) ≡ Some (head, rest)
   pub fact : Fact (blocks_from (length head + 2) rest)
 
--- a block that begins at this line is the first one that tells no turn that may follow those before
+-- a block that begins at this line is the first one that is no turn that may follow those before
 pub record StopsAt (g : Graph) (level : ℕ → ℕ) (rows : ℕ → List Row) (line : ℕ) (blocks : List Block) : Type 0 where
   pub before : List Block
   pub bad : Block
   pub after : List Block
   pub is : blocks ≡ before ++ bad ∷ after
   pub at : line ≡ bad.line
-  pub tells : BlocksAreLawful g level rows before
+  pub are_lawful : BlocksAreLawful g level rows before
   pub never : BlocksAreLawful g level rows (before ++ bad ∷ []) → ⊥
 
--- all blocks tell lawful turns, and a fact holds of their histories and of the states after them
+-- the turns of all blocks are lawful, and a fact holds of their histories and of the states after them
 pub record AllBlocksSay (g : Graph) (level : ℕ → ℕ) (rows : ℕ → List Row) (blocks : List Block) (Fact : (ℕ → List Recorded) → (ℕ → State) → Type 0) : Type 0 where
-  pub told : List ToldTurn
+  pub logged : List LoggedTurn
   pub ends : ℕ → State
-  pub are_told : AreTold g blocks told
-  pub lawful : AreLawful g level rows told ends
-  pub fact : Fact (λ i. turns_of i told) ends
+  pub are_logged : AreLogged g blocks logged
+  pub lawful : AreLawful g level rows logged ends
+  pub fact : Fact (λ i. turns_of i logged) ends
 
 -- platform i is the first that is not finished
 pub record IsFirstUnfinished (g : Graph) (i : ℕ) (ends : ℕ → State) : Type 0 where
@@ -75,8 +75,8 @@ IsVerdictOn plan rows blocks _ = ⊥
 
 -- the verdict on a file, with this plan and these rows. The head isn't judged here, so `Table` is no verdict of its own
 abbrev pub IsVerdict : Parts → (ℕ → List Row) → List ℕ → Verdict → Type 0
-IsVerdict plan rows bytes TooLong = most_bytes < length bytes
-IsVerdict plan rows bytes NoLog = (length bytes ≤ most_bytes) × (at_log (text_lines bytes) ≡ None)
+IsVerdict plan rows bytes TooLong = most_log_bytes < length bytes
+IsVerdict plan rows bytes NoLog = (length bytes ≤ most_log_bytes) × (at_log (text_lines bytes) ≡ None)
 IsVerdict plan rows bytes v = HasLog bytes (λ blocks. IsVerdictOn plan rows blocks v)
 
 -- the lines before the first line `log` are the tables of the meaning

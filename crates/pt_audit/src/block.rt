@@ -1,23 +1,23 @@
-//! One block of a log, replayed.
+//! One block of a log, verified.
 
 ghost use Rattle.std.specs.Prelude.{◌≡◌, ◌++◌, ◌∷◌, [], ℕ, IfOk, List, false, true};
 ghost use Rattle.pt_types.specs.declared.rows.Row.{Row};
 ghost use Rattle.pt_causality.specs.Ranked.{level_of};
 ghost use Rattle.pt_offsets.specs.Plans.{IsAdmitted};
-ghost use Rattle.pt_hints.specs.Lines.{Block};
-ghost use Rattle.pt_audit.specs.Replaying.{HaveReplayed};
-ghost use Rattle.pt_audit.specs.Told.{BlocksAreLawful};
+ghost use Rattle.pt_audit.specs.Parsing.Lines.{Block};
+ghost use Rattle.pt_audit.specs.Verifying.{AreVerified};
+ghost use Rattle.pt_audit.specs.Logged.{BlocksAreLawful};
 
+use crate::matching::are_loggable;
 use crate::order::Order;
-use crate::telling::are_tellable;
-use crate::turn::{Tools, quiet_count, replay_turn};
-use pt_hints::read_hints;
+use crate::parse::read_hints;
+use crate::turn::{Tools, quiet_count, verify_turn};
 use pt_offsets::Plan;
 use pt_tags::{Memory, Message};
 use pt_turn::Platform;
 
-/// Replays one more block, and returns whether it describes a turn that may follow. `last` has, by link, the last message taken.
-pub(crate) fn replay_block(
+/// Verifies one more block, and returns whether it describes a turn that may follow. `last` has, by link, the last message taken.
+pub(crate) fn verify_block(
     plan: &Plan,
     platforms: &mut [Platform],
     order: &mut Order,
@@ -25,15 +25,24 @@ pub(crate) fn replay_block(
     tools: &mut Tools<'_>,
     block: &[u8],
 ) -> Result<bool, Memory>
-    requires begun { (rows : ℕ → List Row) × (before : List Block) × HaveReplayed plan.now rows before order.old last.old platforms.old }
-    ensures told { (rows : ℕ → List Row) (before : List Block) (line : ℕ) → HaveReplayed plan.now rows before order.old last.old platforms.old → IfOk result (λ told. told ≡ true → HaveReplayed plan.now rows (before ++ record { line = line; text = block.now } ∷ []) order.new last.new platforms.new) }
-    ensures none { (rows : ℕ → List Row) (before : List Block) (line : ℕ) → HaveReplayed plan.now rows before order.old last.old platforms.old → IfOk result (λ told. told ≡ false → BlocksAreLawful plan.now.graph (level_of plan.now.ranks) rows (before ++ record { line = line; text = block.now } ∷ []) → ⊥) }
+    requires begun { (rows : ℕ → List Row) × (before : List Block)
+        × AreVerified plan.now rows before order.old last.old platforms.old }
+    ensures verified { (rows : ℕ → List Row) (before : List Block) (line : ℕ) →
+        AreVerified plan.now rows before order.old last.old platforms.old →
+        IfOk result (λ verified. verified ≡ true →
+        AreVerified plan.now rows
+        (before ++ record { line = line; text = block.now } ∷ []) order.new last.new platforms.new) }
+    ensures none { (rows : ℕ → List Row) (before : List Block) (line : ℕ) →
+        AreVerified plan.now rows before order.old last.old platforms.old →
+        IfOk result (λ verified. verified ≡ false →
+        BlocksAreLawful plan.now.graph (level_of plan.now.ranks) rows
+        (before ++ record { line = line; text = block.now } ∷ []) → ⊥) }
 {
     let graph = plan.graph();
     if !read_hints(graph, block, &mut tools.hints)? {
         return Ok(false);
     }
-    if !are_tellable(graph, &tools.hints) {
+    if !are_loggable(graph, &tools.hints) {
         return Ok(false);
     }
     let number = tools.hints.platform;
@@ -41,11 +50,11 @@ pub(crate) fn replay_block(
         return Ok(false);
     };
     let platform = &mut platforms[number as usize];
-    if !replay_turn(
+    if !verify_turn(
         platform,
         &tools.hints,
         last,
-        &mut tools.desk,
+        &mut tools.buffers,
         &mut tools.text,
         tools.blocks,
         block,

@@ -1,21 +1,21 @@
-//! All blocks of a log, replayed.
+//! All blocks of a log, verified.
 
 ghost use Rattle.std.specs.Prelude.{◌≡◌, [], ℕ, IfOk, List, MatchOption};
 ghost use Rattle.pt_types.specs.declared.rows.Row.{Row};
 ghost use Rattle.pt_causality.specs.Ranked.{level_of};
-ghost use Rattle.pt_audit.specs.Replaying.{HaveReplayed};
+ghost use Rattle.pt_audit.specs.Verifying.{AreVerified};
 ghost use Rattle.pt_audit.specs.Verdicts.{StopsAt};
 
-use crate::block::replay_block;
+use crate::block::verify_block;
 use crate::order::Order;
+use crate::parse::Cursor;
 use crate::turn::Tools;
-use pt_hints::Cursor;
 use pt_offsets::Plan;
 use pt_tags::{Memory, Message};
 use pt_turn::Platform;
 
-/// Replays a log, block by block. Returns the line of the first block that describes no turn that may follow those before.
-pub(crate) fn replay_blocks(
+/// Verifies a log, block by block. Returns the line of the first block that describes no turn that may follow those before.
+pub(crate) fn verify_blocks(
     plan: &Plan,
     platforms: &mut [Platform],
     order: &mut Order,
@@ -23,12 +23,17 @@ pub(crate) fn replay_blocks(
     tools: &mut Tools<'_>,
     log: Cursor,
 ) -> Result<Option<u32>, Memory>
-    requires begun { (rows : ℕ → List Row) × HaveReplayed plan.now rows [] order.old last.old platforms.old }
-    ensures { (rows : ℕ → List Row) → HaveReplayed plan.now rows [] order.old last.old platforms.old → IfOk result (λ stop. MatchOption stop (HaveReplayed plan.now rows log.entry order.new last.new platforms.new) (λ line. StopsAt plan.now.graph (level_of plan.now.ranks) rows line log.entry)) }
+    requires begun { (rows : ℕ → List Row)
+        × AreVerified plan.now rows [] order.old last.old platforms.old }
+    ensures { (rows : ℕ → List Row) →
+        AreVerified plan.now rows [] order.old last.old platforms.old →
+        IfOk result (λ stop.
+        MatchOption stop (AreVerified plan.now rows log.entry order.new last.new platforms.new)
+        (λ line. StopsAt plan.now.graph (level_of plan.now.ranks) rows line log.entry)) }
 {
     let mut rest = log;
     while let Some(block) = rest.next() {
-        if !replay_block(plan, platforms, order, last, tools, block.text)? {
+        if !verify_block(plan, platforms, order, last, tools, block.text)? {
             return Ok(Some(block.line));
         }
     }

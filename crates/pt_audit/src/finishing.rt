@@ -12,7 +12,7 @@ use pt_turn::Platform;
 use pt_types::Graph;
 use std::alloc::Global;
 
-/// The verdict if the replay stopped at this line, or else on the platforms, which have made all turns of the log.
+/// The verdict if the verification stopped at this line, or else on the platforms, which have made all turns of the log.
 pub(crate) fn verdict_after(
     alloc: Global,
     graph: &Graph,
@@ -21,7 +21,9 @@ pub(crate) fn verdict_after(
 ) -> Result<Verdict, Memory>
     requires lawful { IsLawful graph.now }
     requires all { length platforms.now ≡ length graph.now.platforms }
-    ensures { IfOk result (λ verdict. MatchOption stop (IsFinalVerdict graph.now platforms.now verdict) (λ line. verdict ≡ Verdict.Turn line)) }
+    ensures { IfOk result
+        (λ verdict. MatchOption stop (IsFinalVerdict graph.now platforms.now verdict)
+        (λ line. verdict ≡ Verdict.Turn line)) }
 {
     match stop {
         Some(line) => Ok(Verdict::Turn { line }),
@@ -46,7 +48,8 @@ fn verdict_of(alloc: Global, graph: &Graph, platforms: &[Platform]) -> Result<Ve
 
 /// The number of the first platform that is not finished.
 fn first_unfinished(platforms: &[Platform]) -> Option<u32>
-    ensures { MatchOption result (AreAtEnd platforms.now) (λ number. IsFirstOpen platforms.now number) }
+    ensures { MatchOption result (AreAtEnd platforms.now)
+        (λ number. IsFirstOpen platforms.now number) }
 {
     for i in 0..platforms.len() {
         if !platforms[i].finished() {

@@ -22,7 +22,9 @@ pub(crate) fn first_unlinked(
 ) -> Result<Option<u32>, Memory>
     requires lawful { IsLawful graph.now }
     requires all { length platforms.now ≡ length graph.now.platforms }
-    ensures { IfOk result (λ first. MatchOption first (AreLinked graph.now (histories_of platforms.now)) (λ l. IsFirstUnlinked graph.now l (histories_of platforms.now))) }
+    ensures { IfOk result
+        (λ first. MatchOption first (AreLinked graph.now (histories_of platforms.now))
+        (λ l. IsFirstUnlinked graph.now l (histories_of platforms.now))) }
 {
     let links = graph.links.as_slice();
     for number in 0..links.len() {
@@ -44,7 +46,8 @@ fn is_linked(
     requires lawful { IsLawful graph.now }
     requires all { length platforms.now ≡ length graph.now.platforms }
     requires link { slice_get graph.now.links number ≡ Some link.now }
-    ensures { IfOk result (λ same. (same ≡ true) ↔ IsLinked graph.now (histories_of platforms.now) number) }
+    ensures { IfOk result
+        (λ same. (same ≡ true) ↔ IsLinked graph.now (histories_of platforms.now) number) }
 {
     let from = graph.platform_of(link.from) as usize;
     let to = graph.platform_of(link.to) as usize;

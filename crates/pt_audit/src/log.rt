@@ -1,4 +1,4 @@
-//! A log replayed by platforms that were just opened.
+//! A log verified by platforms that were just opened.
 
 ghost use Rattle.std.specs.Prelude.{◌≡◌, [], ℕ, None, IfOk, List, OnOk, replicate};
 ghost use Rattle.pt_types.specs.declared.rows.Row.{Row};
@@ -7,13 +7,13 @@ ghost use Rattle.pt_confluence.specs.Gathered.{AreLegal, HaveFinished};
 ghost use Rattle.pt_audit.specs.Verdicts.{IsVerdictOn};
 ghost use Rattle.pt_audit.specs.declared.verdict.Verdict.TheVariants.{Fine};
 
-use crate::blocks::replay_blocks;
+use crate::blocks::verify_blocks;
 use crate::finishing::verdict_after;
 use crate::order::Order;
+use crate::parse::Cursor;
 use crate::turn::Tools;
 use crate::verdict::Verdict;
 use pt_blocks::Blocks;
-use pt_hints::Cursor;
 use pt_offsets::Plan;
 use pt_tags::{Memory, Message};
 use pt_turn::Platform;
@@ -21,22 +21,25 @@ use std::alloc::Global;
 
 /// The verdict on a log, and the platforms after its turns.
 #[derive(Drop)]
-pub(crate) struct Ended {
+pub(crate) struct VerifiedLog {
     pub verdict: Verdict,
     pub platforms: Vec<Platform>,
 }
 
-/// Replays a log, and says what it is.
-pub(crate) fn replay_log(
+/// Verifies a log, and says what it is.
+pub(crate) fn verify_log(
     alloc: Global,
     plan: &Plan,
     platforms: Vec<Platform>,
     blocks: &Blocks,
     log: Cursor,
-) -> Result<Ended, Memory>
+) -> Result<VerifiedLog, Memory>
     requires ready { (rows : ℕ → List Row) × AreReady plan.now rows platforms.items }
-    ensures verdict { (rows : ℕ → List Row) → AreReady plan.now rows platforms.items → IfOk result (λ ended. IsVerdictOn plan.now rows log.entry ended.verdict) }
-    ensures fine { (rows : ℕ → List Row) → AreReady plan.now rows platforms.items → IfOk result (λ ended. ended.verdict ≡ Fine → HaveFinished plan.now rows ended.platforms.items) }
+    ensures verdict { (rows : ℕ → List Row) → AreReady plan.now rows platforms.items →
+        IfOk result (λ ended. IsVerdictOn plan.now rows log.entry ended.verdict) }
+    ensures fine { (rows : ℕ → List Row) → AreReady plan.now rows platforms.items →
+        IfOk result (λ ended. ended.verdict ≡ Fine →
+        HaveFinished plan.now rows ended.platforms.items) }
 {
     let mut platforms = platforms;
     have_not_moved(platforms.as_slice());
@@ -47,7 +50,7 @@ pub(crate) fn replay_log(
         last: None,
     };
     let mut tools = Tools::new(alloc, blocks);
-    let stop = replay_blocks(
+    let stop = verify_blocks(
         plan,
         platforms.as_mut_slice(),
         &mut order,
@@ -56,7 +59,7 @@ pub(crate) fn replay_log(
         log,
     )?;
     let verdict = verdict_after(alloc, plan.graph(), platforms.as_slice(), stop)?;
-    Ok(Ended { verdict, platforms })
+    Ok(VerifiedLog { verdict, platforms })
 }
 
 /// For each link that no message was taken.

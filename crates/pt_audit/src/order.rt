@@ -1,9 +1,9 @@
-//! The order of told turns: platform after platform, and no third turn after two quiet ones.
+//! The order of logged turns: platform after platform, and no third turn after two quiet ones.
 
 ghost use Rattle.std.specs.Prelude.{◌≡◌};
-ghost use Rattle.pt_audit.specs.Replaying.{entered, is_joined, with_turn};
+ghost use Rattle.pt_audit.specs.Verifying.{entered, is_joined, with_turn};
 
-/// The platform of the last told turn, and of its last two told turns the count of each that is quiet.
+/// The platform of the last logged turn, and of its last two logged turns the count of each that is quiet.
 #[derive(Clone, Copy, Debug, PartialEq, Eq)]
 pub struct Order {
     pub platform: u32,

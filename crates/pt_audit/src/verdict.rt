@@ -13,7 +13,7 @@ pub enum Verdict {
     Unfinished { platform: u32 },
     /// This is the first link, by number, whose receiver did not take all that its sender sent.
     Unlinked { link: u32 },
-    /// The lines before `log` are not the tables of the meaning. `replay` does not compare them: its caller may say so.
+    /// The lines before `log` are not the tables of the meaning. `verify` does not compare them: its caller may say so.
     Table,
     /// None of these.
     Fine,

@@ -1,6 +1,6 @@
 //! A stored function with its law.
 
-ghost use Rattle.std.specs.Prelude.{◌≡◌, ℤ, string_bytes, true};
+ghost use Rattle.std.specs.Prelude.{◌≡◌, ℤ, IfSome, option_map, string_bytes, true, unwrap_or};
 ghost use Rattle.pt_semantics.specs.Laws.{law_value};
 ghost use Rattle.pt_types.specs.Kinds.{law_in_range};
 
@@ -29,11 +29,11 @@ impl Function {
     }
 
     /// The law that it computes.
-    pub fn law(&self) -> Law
-        ensures law { result ≡ self.now.law }
+    pub fn law(&self) -> &Law
+        ensures law { result.now ≡ self.now.law }
         ensures in_range { law_in_range self.now.law ≡ true }
     {
-        self.law
+        &self.law
     }
 
     /// The law's value for a and b.
@@ -63,6 +63,47 @@ impl Block {
         Block {
             name: Name::new(name),
             function: Function { run, law },
+        }
+    }
+}
+
+/// What is stored for a block: its law, and its function, if it has one of its own. A formula has none.
+#[derive(Drop)]
+pub struct Stored {
+    function: Option<Function>,
+    law: Law,
+    ghost same: { unwrap_or (option_map (λ f. f.law) function) law ≡ law },
+}
+
+impl Stored {
+    /// With a function of its own.
+    pub(crate) fn native(function: Function, law: Law) -> Stored
+        requires { function.law ≡ law }
+        ensures { result.law ≡ law }
+    {
+        Stored {
+            function: Some(function),
+            law,
+        }
+    }
+
+    /// With nothing but a law.
+    pub(crate) fn alone(law: Law) -> Stored
+        ensures { result.law ≡ law }
+    {
+        Stored {
+            function: None,
+            law,
+        }
+    }
+
+    /// The function; it has the law.
+    pub(crate) fn function(&self) -> Option<&Function>
+        ensures { IfSome result (λ f. f.now.law ≡ self.now.law) }
+    {
+        match &self.function {
+            Some(function) => Some(function),
+            None => None,
         }
     }
 }

@@ -3,8 +3,9 @@
 ghost use Rattle.std.specs.Prelude.{◌≡◌, ◌≤◌, map};
 ghost use Rattle.pt_blocks.specs.Blocks.{AreBlocks};
 
-use crate::block::{Block, Function};
-use pt_tags::{Memory, Name};
+use crate::block::{Block, Function, Stored};
+use pt_formula::Step;
+use pt_tags::{List, Memory, Name};
 use pt_types::Law;
 use std::alloc::Global;
 use thiserror::Error;
@@ -35,14 +36,16 @@ pub struct Named {
 /// At most 64 blocks, numbered from 0. Contracts see the list of their names and laws, `listed`.
 #[derive(Drop)]
 pub struct Blocks {
+    alloc: Global,
     listed: Vec<Named>,
-    stored: Vec<Function>,
+    stored: Vec<Stored>,
     ghost blocks: { AreBlocks listed.items },
-    ghost laws: { map (λ f. f.law) stored.items ≡ map (λ b. b.law) listed.items },
+    ghost laws: { map (λ s. s.law) stored.items ≡ map (λ b. b.law) listed.items },
 }
 
 impl Blocks {
-    ghost use Rattle.std.specs.Prelude.{◌≡◌, ◌++◌, ◌∷◌, [], ◌<◌, length, OnOk, OnErr, MatchBool, option_map};
+    ghost use Rattle.std.specs.Prelude.{◌≡◌, ◌++◌, ◌∷◌, [], ◌<◌, ◌≤◌, length, IfSome, Some, OnOk, OnErr, MatchBool, option_map, true};
+    ghost use Rattle.pt_types.specs.Kinds.{law_in_range};
     ghost use Rattle.pt_blocks.specs.Blocks.{find_block, has_block, law_at, name_at, AreBlocks, RefusesBlock, named};
 
     /// No blocks.
@@ -50,6 +53,7 @@ impl Blocks {
         ensures { result.listed.items ≡ [] }
     {
         Blocks {
+            alloc,
             listed: Vec::new(alloc),
             stored: Vec::new(alloc),
         }
@@ -75,13 +79,13 @@ impl Blocks {
     }
 
     /// The law of the block with this number; `None` if there is none.
-    pub fn law(&self, number: u32) -> Option<Law>
-        ensures { result ≡ law_at self.now.listed.items number }
+    pub fn law(&self, number: u32) -> Option<&Law>
+        ensures { option_map (λ law. law.now) result ≡ law_at self.now.listed.items number }
     {
         self.listed
             .as_slice()
             .get(number as usize)
-            .map(|block| block.law)
+            .map(|block| &block.law)
     }
 
     /// The name of the block with this number; `None` if there is none.
@@ -110,14 +114,24 @@ impl Blocks {
         self.listed.as_slice().len()
     }
 
-    /// The stored function of the block with this number; `None` if there is none. It computes the block's law.
+    /// The stored function of the block with this number, which computes the block's law; `None` if there is none, as for a formula.
     pub fn get(&self, number: u32) -> Option<&Function>
-        ensures law { option_map (λ f. f.now.law) result ≡ law_at self.now.listed.items number }
+        ensures { IfSome result (λ f. Some f.now.law ≡ law_at self.now.listed.items number) }
+    {
+        match self.stored_at(number) {
+            Some(stored) => stored.function(),
+            None => None,
+        }
+    }
+
+    fn stored_at(&self, number: u32) -> Option<&Stored>
+        ensures law { option_map (λ s. s.now.law) result ≡ law_at self.now.listed.items number }
     {
         self.stored.as_slice().get(number as usize)
     }
 
-    /// Adds a block; it gets the next number. After a fault the names and laws are unchanged.
+    /// Adds a block; it gets the next number: the first has 0, and with five shipped blocks the next has 5. After a fault the
+    /// names and laws are unchanged.
     pub fn add(&mut self, block: Block) -> Result<(), BlockFault>
         ensures added { OnOk result (self.new.listed.items ≡ self.old.listed.items ++ named block.name block.function.law ∷ []) }
         ensures unchanged { OnErr result (self.new.listed.items ≡ self.old.listed.items) }
@@ -129,7 +143,26 @@ impl Blocks {
         if self.is_full() {
             return Err(BlockFault::Full);
         }
-        match self.keep(block) {
+        match self.keep_function(block) {
+            Ok(()) => Ok(()),
+            Err(_) => Err(BlockFault::Memory),
+        }
+    }
+
+    /// Adds a block with this formula, as `add`.
+    pub fn add_formula(&mut self, name: Name, steps: List<Step>) -> Result<(), BlockFault>
+        requires { length steps ≤ 64 }
+        ensures added { OnOk result (self.new.listed.items ≡ self.old.listed.items ++ named name (Law.Formula steps) ∷ []) }
+        ensures unchanged { OnErr result (self.new.listed.items ≡ self.old.listed.items) }
+        ensures fault { RefusesBlock self.old.listed.items name result }
+    {
+        if self.has(name.as_str()) {
+            return Err(BlockFault::Repeated);
+        }
+        if self.is_full() {
+            return Err(BlockFault::Full);
+        }
+        match self.keep_formula(name, steps) {
             Ok(()) => Ok(()),
             Err(_) => Err(BlockFault::Memory),
         }
@@ -148,17 +181,39 @@ impl Blocks {
         self.listed.as_slice().len() >= MOST_BLOCKS
     }
 
-    fn keep(&mut self, block: Block) -> Result<(), Memory>
+    fn keep_function(&mut self, block: Block) -> Result<(), Memory>
         requires { length self.old.listed.items < 64 }
         ensures added { OnOk result (self.new.listed.items ≡ self.old.listed.items ++ named block.name block.function.law ∷ []) }
         ensures unchanged { OnErr result (self.new.listed.items ≡ self.old.listed.items) }
     {
-        let law = block.function.law();
         let Block { name, function } = block;
-        if self.stored.push(function).is_err() {
+        let law = function.law().copy(self.alloc)?;
+        let kept = function.law().copy(self.alloc)?;
+        self.keep(Named { name, law }, Stored::native(function, kept))
+    }
+
+    fn keep_formula(&mut self, name: Name, steps: List<Step>) -> Result<(), Memory>
+        requires room { length self.old.listed.items < 64 }
+        requires steps { length steps ≤ 64 }
+        ensures added { OnOk result (self.new.listed.items ≡ self.old.listed.items ++ named name (Law.Formula steps) ∷ []) }
+        ensures unchanged { OnErr result (self.new.listed.items ≡ self.old.listed.items) }
+    {
+        let law = Law::Formula(steps);
+        let kept = law.copy(self.alloc)?;
+        self.keep(Named { name, law }, Stored::alone(kept))
+    }
+
+    fn keep(&mut self, block: Named, stored: Stored) -> Result<(), Memory>
+        requires room { length self.old.listed.items < 64 }
+        requires law { stored.law ≡ block.law }
+        requires in_range { law_in_range block.law ≡ true }
+        ensures added { OnOk result (self.new.listed.items ≡ self.old.listed.items ++ block ∷ []) }
+        ensures unchanged { OnErr result (self.new.listed.items ≡ self.old.listed.items) }
+    {
+        if self.stored.push(stored).is_err() {
             return Err(Memory);
         }
-        match self.listed.push(Named { name, law }) {
+        match self.listed.push(block) {
             Ok(()) => Ok(()),
             Err(_) => {
                 let _dropped = self.stored.pop();

@@ -11,8 +11,8 @@ use crate::blocks::{BlockFault, Blocks};
 use pt_tags::{Memory, Name};
 use std::alloc::Global;
 
-/// The blocks that the program offers, in the order of their numbers: `least`, `greatest`, `clip100`, `dead5` and `mean`. The
-/// caller makes their functions, each of its own law.
+/// The blocks that the program offers, in the order of their numbers, 0 to 4: `least`, `greatest`, `clip100`, `dead5` and
+/// `mean`. The caller makes their functions, each of its own law. For 9 and 2 they give 2, 9, 9, 7 and 5 (5.5, rounded down).
 pub fn shipped_blocks(
     alloc: Global,
     least: Function,

@@ -5,7 +5,7 @@ ghost use Rattle.pt_types.specs.Lawful.{IsLawful};
 use crate::graphs::graph_of;
 use pt_blocks::Blocks;
 use pt_causality::least_delays;
-use pt_offsets::{OffsetFault, offsets_of};
+use pt_offsets::{OffsetFault, offsets};
 use pt_tables::margins;
 use pt_types::Graph;
 use std::alloc::{AllocError, Global};
@@ -25,7 +25,7 @@ fn margins_of(alloc: Global, graph: &Graph) -> Result<String, AllocError>
     let Ok(least) = least_delays(alloc, graph) else {
         return Err(AllocError);
     };
-    match offsets_of(alloc, graph, &least) {
+    match offsets(alloc, graph, &least) {
         Ok(offsets) => margins(alloc, graph, &offsets),
         Err(fault) => refusal(alloc, fault),
     }

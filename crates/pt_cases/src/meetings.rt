@@ -20,8 +20,8 @@ use pt_io::{Clock, Page, Shelf, StepClock};
 use pt_offsets::Plan;
 use pt_run::ptides;
 use pt_tags::Memory;
-use pt_threads::threaded;
 use pt_turn::Platform;
+use pt_workers::threaded;
 use std::alloc::{AllocError, Global};
 use std::sync::{Arc, Wait};
 use std::thread::Threads;
@@ -177,7 +177,7 @@ fn fired<R: Threads + Wait + Sync>(
         return Err(AllocError);
     };
     match threaded(rt, alloc, platforms, clocks, blocks, 2, share.most, gate) {
-        Ok(ended) => Ok(if ended.fault.is_some() {
+        Ok(ended) => Ok(if ended.rounds.fault.is_some() {
             "a fault"
         } else {
             "no fault"

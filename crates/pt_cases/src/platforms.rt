@@ -22,6 +22,7 @@ use crate::platforms::game::Game;
 use crate::platforms::report::push_turn;
 use pt_actors::Task;
 use pt_blocks::Blocks;
+use pt_tags::Reading;
 use std::alloc::{AllocError, Global};
 
 /// The graph and the files that were given, the platforms, and what is held back.
@@ -145,7 +146,7 @@ impl PlatformScript {
         &mut self,
         alloc: Global,
         number: u32,
-        reading: u64,
+        reading: Reading,
         again: bool,
         blocks: &Blocks,
     ) -> Result<bool, AllocError> {

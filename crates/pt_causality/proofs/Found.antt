@@ -8,9 +8,9 @@ use Rattle.pt_semantics.proofs.LawfulEdges.{wired}
 use Rattle.pt_semantics.specs.Lists.{IsIn}
 use Rattle.pt_semantics.specs.Edges.{Edge, edges}
 use Rattle.pt_semantics.specs.Ranks.{AreLevels, AreRanks, IsLongest, Leads, NoDelay, NoTime, sum_along}
-use Rattle.pt_causality.specs.declared.places.Place.{Place}
-use Rattle.pt_causality.specs.declared.places.Mark.{Mark}
-use Rattle.pt_causality.specs.declared.places.Mark.TheVariants.{New, Open, Done}
+use Rattle.pt_causality.specs.declared.places.SearchState.{SearchState}
+use Rattle.pt_causality.specs.declared.places.SearchMark.{SearchMark}
+use Rattle.pt_causality.specs.declared.places.SearchMark.TheVariants.{New, Open, Done}
 use Rattle.pt_causality.specs.declared.cycle.CycleFault.{CycleFault}
 use Rattle.pt_causality.specs.declared.cycle.CycleFault.TheVariants.{Memory, Cycle}
 use Rattle.pt_causality.specs.Incoming.{AreIncoming, comes_to, into}
@@ -95,23 +95,23 @@ fresh_rests incoming = record {
   none_open = λ a opened. let h : New ≡ Open = sym (of a (λ p. p.mark ≡ New) refl) ∙ opened in cc;
 }
   where
-    of : (a : ℕ) (F : Place → Type 0) → F (fresh_place (into incoming a)) → F (place_at (map fresh_place incoming) a)
+    of : (a : ℕ) (F : SearchState → Type 0) → F (fresh_place (into incoming a)) → F (place_at (map fresh_place incoming) a)
     of a F h = subst F (sym (fresh_at incoming a)) h
 
 -- an actor whose mark stays is done
-pub done_of : (m : Mark) → marks_left m ≤ 0 → m ≡ Done
+pub done_of : (m : SearchMark) → marks_left m ≤ 0 → m ≡ Done
 done_of New h = absurd (omega (arith, h))
 done_of Open h = absurd (omega (arith, h))
 done_of Done h = refl
 
 -- one whose mark changes at most once is done unless it is open
-pub done_unless : (m : Mark) → marks_left m ≤ 1 → (m ≡ Open → ⊥) → m ≡ Done
+pub done_unless : (m : SearchMark) → marks_left m ≤ 1 → (m ≡ Open → ⊥) → m ≡ Done
 done_unless New h shut = absurd (omega (arith, h))
 done_unless Open h shut = absurd (shut refl)
 done_unless Done h shut = refl
 
 -- once all are done
-module _ (g : Graph) (incoming : List (List Edge)) (places : List Place) (lawful : IsLawful g) (are : AreIncoming (edges g) (length g.actors) incoming) (all : ActorsAreDone incoming places) where
+module _ (g : Graph) (incoming : List (List Edge)) (places : List SearchState) (lawful : IsLawful g) (are : AreIncoming (edges g) (length g.actors) incoming) (all : ActorsAreDone incoming places) where
   above : (e : Edge) → IsIn e (edges g) → e.weight.time ≡ 0 → LiesAbove e (place_at places e.from) (place_at places e.to)
   above e mem free =
       let below : e.to < length g.actors = ((wired g lawful).ends e mem).1 in
@@ -127,7 +127,7 @@ module _ (g : Graph) (incoming : List (List Edge)) (places : List Place) (lawful
     comes = λ a.
         ⊎_elim
         (λ (none : (place_at places a).level ≡ 0). inl none)
-        (λ (one : IsOneAbove (λ (e : Edge). Unit {0}) (λ (p : Place). p.level) (place_at places) (into incoming a) (place_at places a)).
+        (λ (one : IsOneAbove (λ (e : Edge). Unit {0}) (λ (p : SearchState). p.level) (place_at places) (into incoming a) (place_at places a)).
         let of = is_of (edges g) (length g.actors) incoming are a one.edge one.in_list in
         inr (record { edge = one.edge; in_graph = of.in_edges; to = of.to; such_edge = of.free; over = one.above }))
         (all.settled.levels a);
@@ -139,7 +139,7 @@ module _ (g : Graph) (incoming : List (List Edge)) (places : List Place) (lawful
     comes = λ a.
         ⊎_elim
         (λ (none : (place_at places a).rank ≡ 0). inl none)
-        (λ (one : IsOneAbove (λ (e : Edge). e.weight.step ≡ 0) (λ (p : Place). p.rank) (place_at places) (into incoming a) (place_at places a)).
+        (λ (one : IsOneAbove (λ (e : Edge). e.weight.step ≡ 0) (λ (p : SearchState). p.rank) (place_at places) (into incoming a) (place_at places a)).
         let of = is_of (edges g) (length g.actors) incoming are a one.edge one.in_list in
         inr (record { edge = one.edge; in_graph = of.in_edges; to = of.to; such_edge = (of.free, one.such_edge); over = one.above }))
         (all.settled.ranks a);
@@ -170,7 +170,7 @@ cycle_found g incoming are (Cycle actors) h =
     }
 
 -- the numbers of all actors, by actor
-number_of : (number : Place → ℕ) → number (fresh_place []) ≡ 0 → (places : List Place) (a : ℕ) → get_or (map number places) a 0 ≡ number (place_at places a)
+number_of : (number : SearchState → ℕ) → number (fresh_place []) ≡ 0 → (places : List SearchState) (a : ℕ) → get_or (map number places) a 0 ≡ number (place_at places a)
 number_of number none places a =
     ⊎_elim
     (λ (below : a < length places). get_or-map number places a (fresh_place []) 0 below)
@@ -178,13 +178,13 @@ number_of number none places a =
     get_or_past (map number places) a 0 (subst (λ n. n ≤ a) (sym (length-map places number)) past) ∙ (sym none ∙ ap number (sym (get_or_past places a (fresh_place []) past))))
     (cases_lt a (length places))
 
-pub ranks_are : (g : Graph) (incoming : List (List Edge)) (places : List Place) (ranks : List ℕ) → IsLawful g → AreIncoming (edges g) (length g.actors) incoming → ActorsAreDone incoming places → ranks ≡ map (λ (p : Place). p.rank) places → AreRanks g (λ a. get_or ranks a 0)
+pub ranks_are : (g : Graph) (incoming : List (List Edge)) (places : List SearchState) (ranks : List ℕ) → IsLawful g → AreIncoming (edges g) (length g.actors) incoming → ActorsAreDone incoming places → ranks ≡ map (λ (p : SearchState). p.rank) places → AreRanks g (λ a. get_or ranks a 0)
 ranks_are g incoming places ranks lawful are all is =
-    λ a. subst (IsLongest g NoDelay a) (sym (ap (λ ns. get_or ns a 0) is ∙ number_of (λ (p : Place). p.rank) refl places a)) (ranks_found g incoming places lawful are all a)
+    λ a. subst (IsLongest g NoDelay a) (sym (ap (λ ns. get_or ns a 0) is ∙ number_of (λ (p : SearchState). p.rank) refl places a)) (ranks_found g incoming places lawful are all a)
 
-pub levels_are : (g : Graph) (incoming : List (List Edge)) (places : List Place) (levels : List ℕ) → IsLawful g → AreIncoming (edges g) (length g.actors) incoming → ActorsAreDone incoming places → levels ≡ map (λ (p : Place). p.level) places → AreLevels g (λ a. get_or levels a 0)
+pub levels_are : (g : Graph) (incoming : List (List Edge)) (places : List SearchState) (levels : List ℕ) → IsLawful g → AreIncoming (edges g) (length g.actors) incoming → ActorsAreDone incoming places → levels ≡ map (λ (p : SearchState). p.level) places → AreLevels g (λ a. get_or levels a 0)
 levels_are g incoming places levels lawful are all is =
-    λ a. subst (IsLongest g NoTime a) (sym (ap (λ ns. get_or ns a 0) is ∙ number_of (λ (p : Place). p.level) refl places a)) (levels_found g incoming places lawful are all a)
+    λ a. subst (IsLongest g NoTime a) (sym (ap (λ ns. get_or ns a 0) is ∙ number_of (λ (p : SearchState). p.level) refl places a)) (levels_found g incoming places lawful are all a)
 
 -- a graph has few actors
 pub few_lists : (g : Graph) (incoming : List (List Edge)) → IsLawful g → AreIncoming (edges g) (length g.actors) incoming → length incoming + 1 < 2 ^ 32

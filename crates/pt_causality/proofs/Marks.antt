@@ -4,7 +4,7 @@ use Rattle.std.specs.Int.{bit_at, bit_not, w64}
 use Rattle.std.specs.Int.RustNames.{bit_and, bit_or}
 use Rattle.std.proofs.lemmas.List.{get_or-set_same, get_or-set_other, get_or_past, length-set}
 use Rattle.std.proofs.lemmas.Nat.Bits.{bit_at_clear_other, bit_at_clear_same, bit_at_set_same, bit_at_set_other, bit_at-zero}
-use Rattle.pt_types.specs.declared.graph.Unit.{Unit as Part}
+use Rattle.pt_types.specs.declared.graph.Unit.{Unit}
 use Rattle.pt_causality.specs.Before.{bit_of, MayHave}
 
 either : (n m : ℕ) → (n ≡ m) ⊎ (n ≢ m)
@@ -69,11 +69,11 @@ pub past_words : (words : List ℕ) (n : ℕ) → length words ≤ n / 64 → bi
 past_words words n l = ap (λ w. bit_at w (n % 64)) (get_or_past words (n / 64) 0 l) ∙ bit_at-zero (n % 64)
 
 -- a unit was added
-module _ (words new : List ℕ) (u : Part) (is : new ≡ with_bit words (8 * u.actor + u.group)) (l : (8 * u.actor + u.group) / 64 < length words) where
+module _ (words new : List ℕ) (u : Unit) (is : new ≡ with_bit words (8 * u.actor + u.group)) (l : (8 * u.actor + u.group) / 64 < length words) where
   pub added_itself : MayHave new u
   added_itself few within = ap (λ ws. bit_of ws (8 * u.actor + u.group)) is ∙ set_here words (8 * u.actor + u.group) l
 
-  pub added_other : (x : Part) → MayHave words x → MayHave new x
+  pub added_other : (x : Unit) → MayHave words x → MayHave new x
   added_other x h few within = ap (λ ws. bit_of ws (8 * x.actor + x.group)) is ∙ ⊎_elim
       (λ (e : 8 * x.actor + x.group ≡ 8 * u.actor + u.group). ap (bit_of (with_bit words (8 * u.actor + u.group))) e ∙ set_here words (8 * u.actor + u.group) l)
       (λ (ne : 8 * x.actor + x.group ≢ 8 * u.actor + u.group). set_other words (8 * u.actor + u.group) (8 * x.actor + x.group) l ne ∙ h few (omega (arith, within, ap length is, length-set words ((8 * u.actor + u.group) / 64) (bit_or (slice_index_or words ((8 * u.actor + u.group) / 64) 0) (1 * 2 ^ ((8 * u.actor + u.group) % 64) % 2 ^ 64)))))

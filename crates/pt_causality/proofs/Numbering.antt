@@ -7,7 +7,7 @@ use Rattle.std.proofs.lemmas.Bool.Decides.{nat_tests}
 use Rattle.std.proofs.lemmas.List.Sums.{sum_by-append, sum_by-cons}
 use Rattle.pt_types.specs.declared.graph.Graph.{Graph}
 use Rattle.pt_types.specs.declared.graph.Actor.{Actor}
-use Rattle.pt_types.specs.declared.graph.Unit.{Unit as Part}
+use Rattle.pt_types.specs.declared.graph.Unit.{Unit}
 use Rattle.pt_types.specs.declared.kind.Kind.{Kind}
 use Rattle.pt_types.specs.declared.kind.Kind.TheVariants.{Lanes, Receive}
 use Rattle.pt_types.specs.Groups.{held, actor_at, groups_of}
@@ -127,21 +127,21 @@ few_groups g a lawful = ⊎_elim
 
 -- what the numbers of first units say of the numbers of all
 module _ (g : Graph) (n : Numbers) (spaced : (i j : ℕ) → i < j → j < length g.actors + 1 → first_in n.firsts.items i + groups (kind_of g i) ≤ first_in n.firsts.items j) (last : first_in n.firsts.items (length g.actors) ≡ n.count) (few : n.count ≤ 2048) where
-  number_is : (u : Part) → IsUnit g u → number_in n.firsts.items u ≡ first_in n.firsts.items u.actor + u.group
+  number_is : (u : Unit) → IsUnit g u → number_in n.firsts.items u ≡ first_in n.firsts.items u.actor + u.group
   unfolding number_in
   number_is u (actor, group) =
       let next = spaced u.actor (u.actor + 1) (omega arith) (omega arith) in
       let less : nat_lt (first_in n.firsts.items u.actor + u.group) (first_in n.firsts.items (u.actor + 1)) ≡ true = grind (arith, nat_tests) in
       rw less refl
 
-  is_below : (u : Part) → IsUnit g u → number_in n.firsts.items u < n.count
+  is_below : (u : Unit) → IsUnit g u → number_in n.firsts.items u < n.count
   is_below u unit =
       let is = number_is u unit in
       let end = spaced u.actor (length g.actors) unit.0 (omega arith) in
       let group = unit.1 in
       omega arith
 
-  not_before : (u v : Part) → IsUnit g u → IsUnit g v → number_in n.firsts.items u ≡ number_in n.firsts.items v → u.actor < v.actor → ⊥
+  not_before : (u v : Unit) → IsUnit g u → IsUnit g v → number_in n.firsts.items u ≡ number_in n.firsts.items v → u.actor < v.actor → ⊥
   not_before u v one other same less =
       let left = number_is u one in
       let right = number_is v other in
@@ -149,7 +149,7 @@ module _ (g : Graph) (n : Numbers) (spaced : (i j : ℕ) → i < j → j < lengt
       let group = one.1 in
       omega arith
 
-  same_actor : (u v : Part) → IsUnit g u → IsUnit g v → number_in n.firsts.items u ≡ number_in n.firsts.items v → u.actor ≡ v.actor
+  same_actor : (u v : Unit) → IsUnit g u → IsUnit g v → number_in n.firsts.items u ≡ number_in n.firsts.items v → u.actor ≡ v.actor
   same_actor u v one other same = ⊎_elim
       (λ (e : u.actor ≡ v.actor). e)
       (λ (ne : u.actor ≢ v.actor). ⊎_elim
@@ -158,7 +158,7 @@ module _ (g : Graph) (n : Numbers) (spaced : (i j : ℕ) → i < j → j < lengt
       (cases_lt u.actor v.actor))
       (cases_nat u.actor v.actor)
 
-  are_apart : (u v : Part) → IsUnit g u → IsUnit g v → number_in n.firsts.items u ≡ number_in n.firsts.items v → u ≡ v
+  are_apart : (u v : Unit) → IsUnit g u → IsUnit g v → number_in n.firsts.items u ≡ number_in n.firsts.items v → u ≡ v
   are_apart u v one other same =
       let actor : u.actor ≡ v.actor = same_actor u v one other same in
       let left = number_is u one in

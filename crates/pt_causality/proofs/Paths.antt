@@ -5,7 +5,7 @@ use Rattle.std.proofs.lemmas.List.{get_or_past}
 use Rattle.pt_tags.specs.declared.tag.Delay.{Delay}
 use Rattle.pt_tags.specs.Tags.{AtMost, then}
 use Rattle.pt_types.specs.declared.graph.Graph.{Graph}
-use Rattle.pt_types.specs.declared.graph.Unit.{Unit as Part}
+use Rattle.pt_types.specs.declared.graph.Unit.{Unit}
 use Rattle.pt_types.specs.Lawful.{IsLawful}
 use Rattle.pt_semantics.specs.Edges.{Edge, wires}
 use Rattle.pt_semantics.specs.Lists.{IsIn}
@@ -23,7 +23,7 @@ use Rattle.pt_causality.proofs.Members.{of_filtered, in_filtered}
 use Rattle.pt_causality.proofs.Lawful.{ends_are_units, wires_are_light}
 
 module _ (g : Graph) (lawful : IsLawful g) (n : Numbers) (numbered : AreNumbered g n) where
-  abbrev number : Part → ℕ
+  abbrev number : Unit → ℕ
   number u = number_in n.firsts.items u
 
   pub source_below : (e : Edge) → IsIn e (wires g) → number (source g e) < n.count
@@ -54,7 +54,7 @@ module _ (g : Graph) (lawful : IsLawful g) (n : Numbers) (numbered : AreNumbered
         let light = wires_are_light g for.wire lawful for.there in
         subst (IsFit (length arcs)) (sym for.is) (record { to = subst (λ k. number (target g for.wire) < k) (sym len) (target_below for.wire for.there); time = light.0; step = light.1 })
 
-    follows_goes : (path : List Edge) (x a : Part) → IsUnit g x → Goes g x path a → ArcsLead arcs (number x) (map (arc_of g n.firsts.items) path) (number a)
+    follows_goes : (path : List Edge) (x a : Unit) → IsUnit g x → Goes g x path a → ArcsLead arcs (number x) (map (arc_of g n.firsts.items) path) (number a)
     follows_goes [] x a unit same = ap number same
     follows_goes (e ∷ path) x a unit (there, from, on) = (
       subst (IsIn (arc_of g n.firsts.items e)) (sym (leave (number x) (numbered.below x unit)))
@@ -67,15 +67,15 @@ module _ (g : Graph) (lawful : IsLawful g) (n : Numbers) (numbered : AreNumbered
     same_sum (e ∷ path) = ap (then e.weight) (same_sum path)
 
     -- a path of wires for a path of arcs
-    record IsPathFor (x : Part) (path : List Arc) (k : ℕ) : Type 0 where
+    record IsPathFor (x : Unit) (path : List Arc) (k : ℕ) : Type 0 where
       edges : List Edge
-      end : Part
+      end : Unit
       unit : IsUnit g end
       goes : Goes g x edges end
       number_is : number end ≡ k
       sum : sum_along edges ≡ total path
 
-    path_for : (path : List Arc) (x : Part) (k : ℕ) → IsUnit g x → ArcsLead arcs (number x) path k → IsPathFor x path k
+    path_for : (path : List Arc) (x : Unit) (k : ℕ) → IsUnit g x → ArcsLead arcs (number x) path k → IsPathFor x path k
     path_for [] x k unit same = record { edges = []; end = x; unit = unit; goes = refl; number_is = same; sum = refl }
     path_for (a ∷ path) x k unit (there, on) =
         let for = wire_for (number x) a there in
@@ -91,7 +91,7 @@ module _ (g : Graph) (lawful : IsLawful g) (n : Numbers) (numbered : AreNumbered
           sum = ap (λ d. then for.wire.weight d) rest.sum ∙ ap (λ w. then w (total path)) (sym (ap (λ (z : Arc). z.weight) for.is));
         }
 
-    least_by : (x a : Part) → IsUnit g x → IsUnit g a → (o : Option Delay) → HasNearest arcs (number x) (number a) o → HasLeast g x a o
+    least_by : (x a : Unit) → IsUnit g x → IsUnit g a → (o : Option Delay) → HasNearest arcs (number x) (number a) o → HasLeast g x a o
     least_by x a one other None none = λ path goes. none (map (arc_of g n.firsts.items) path) (follows_goes path x a one goes)
     least_by x a one other (Some d) is =
         let for = path_for is.along.0 x (number a) one is.along.1 in

@@ -9,7 +9,7 @@ use Rattle.pt_tags.specs.declared.tag.Delay.{Delay}
 use Rattle.pt_tags.specs.Tags.{AtMost, then, zero_delay}
 use Rattle.pt_semantics.specs.Lists.{IsIn}
 use Rattle.pt_causality.specs.declared.arcs.Arc.{Arc}
-use Rattle.pt_causality.specs.declared.frontier.Waiting.{Waiting}
+use Rattle.pt_causality.specs.declared.frontier.FoundUnit.{FoundUnit}
 use Rattle.pt_causality.specs.Cells.{delay_at}
 use Rattle.pt_causality.specs.Arcs.{arcs_from, ArcsLead, total, HasNearest, HasLeastDelays, IsSmallRow, IsFit, AreFit}
 use Rattle.pt_causality.specs.Waits.{HasLeastDelay, is_open, reached}
@@ -67,13 +67,13 @@ pub record Settled (row : List (Option Delay)) (k : ℕ) (d : Delay) : Type 0 wh
   pub most : AtMost at d
 
 -- it waits for at most d
-pub record Waits (waiting : List Waiting) (k : ℕ) (d : Delay) : Type 0 where
-  pub one : Waiting
+pub record Waits (waiting : List FoundUnit) (k : ℕ) (d : Delay) : Type 0 where
+  pub one : FoundUnit
   pub there : Contains waiting one
   pub unit : one.unit ≡ k
   pub most : AtMost one.at d
 
-abbrev Met : List (Option Delay) → List Waiting → ℕ → Delay → Type 0
+abbrev Met : List (Option Delay) → List FoundUnit → ℕ → Delay → Type 0
 Met row waiting k d = Settled row k d ⊎ ((delay_at row k ≡ None) × Waits waiting k d)
 
 at_most_trans : (c d e : Delay) → AtMost c d → AtMost d e → AtMost c e
@@ -86,14 +86,14 @@ at_most_both : (c d w : Delay) → AtMost c d → AtMost (then c w) (then d w)
 at_most_both c d w h = omega arith
 
 -- a unit that waits is as far away as the number of settled places allows
-abbrev IsNear : List (Option Delay) → Waiting → Type 0
+abbrev IsNear : List (Option Delay) → FoundUnit → Type 0
 IsNear row w = (w.at.time + unsettled (λ k. 1) row * 1000000000000000 ≤ length row * 1000000000000000) × (w.at.step + unsettled (λ k. 1) row ≤ length row)
 
 -- the work that is left falls where one that waits is settled already, and where it is settled now
-pub less_waits : (work : ℕ) (old new : List Waiting) (w : Waiting) → IsPermutation old (w ∷ new) → work + length new < work + length old
+pub less_waits : (work : ℕ) (old new : List FoundUnit) (w : FoundUnit) → IsPermutation old (w ∷ new) → work + length new < work + length old
 less_waits work old new w taken = let same : length (w ∷ new) ≡ length old = length_permutation old (w ∷ new) taken in omega arith
 
-pub less_work : (arcs : List (List Arc)) (p : Arc → Bool) (row : List (Option Delay)) (old new newer : List Waiting) (w : Waiting) → IsPermutation old (w ∷ new) → IsPermutation (map (reached w.at) (filter p (arcs_from arcs w.unit)) ++ new) newer → w.unit < length row → delay_at row w.unit ≡ None
+pub less_work : (arcs : List (List Arc)) (p : Arc → Bool) (row : List (Option Delay)) (old new newer : List FoundUnit) (w : FoundUnit) → IsPermutation old (w ∷ new) → IsPermutation (map (reached w.at) (filter p (arcs_from arcs w.unit)) ++ new) newer → w.unit < length row → delay_at row w.unit ≡ None
     → unsettled (λ k. 1 + length (arcs_from arcs k)) (slice_set row w.unit (Some w.at)) + length newer < unsettled (λ k. 1 + length (arcs_from arcs k)) row + length old
 less_work arcs p row old new newer w taken pushed within none =
     let one : length (w ∷ new) ≡ length old = length_permutation old (w ∷ new) taken in
@@ -111,14 +111,14 @@ module _ (arcs : List (List Arc)) (s : ℕ) where
   Reaches k d = (path : List Arc) × ArcsLead arcs s path k × (total path ≡ d)
 
   -- the search at any time
-  pub record Searched (row : List (Option Delay)) (waiting : List Waiting) : Type 0 where
+  pub record Searched (row : List (Option Delay)) (waiting : List FoundUnit) : Type 0 where
     pub len : length row ≡ length arcs
     pub found : (k : ℕ) (d : Delay) → delay_at row k ≡ Some d → Reaches k d
     pub small : (k : ℕ) (d : Delay) → delay_at row k ≡ Some d → (d.time ≤ length row * 1000000000000000) × (d.step ≤ length row)
-    pub waits : All (λ (w : Waiting). Reaches w.unit w.at) waiting
-    pub within : All (λ (w : Waiting). w.unit < length arcs) waiting
+    pub waits : All (λ (w : FoundUnit). Reaches w.unit w.at) waiting
+    pub within : All (λ (w : FoundUnit). w.unit < length arcs) waiting
     pub near : All (IsNear row) waiting
-    pub before : (k : ℕ) (d : Delay) → delay_at row k ≡ Some d → All (λ (w : Waiting). AtMost d w.at) waiting
+    pub before : (k : ℕ) (d : Delay) → delay_at row k ≡ Some d → All (λ (w : FoundUnit). AtMost d w.at) waiting
     pub start : Met row waiting s zero_delay
     pub onward : (j : ℕ) (d : Delay) → delay_at row j ≡ Some d → (a : Arc) → IsIn a (arcs_from arcs j) → Met row waiting a.to (then d a.weight)
 
@@ -126,15 +126,15 @@ module _ (arcs : List (List Arc)) (s : ℕ) where
   reaches_push k d a (path, follows, sum) there = (path ++ a ∷ [], follows_push arcs s path k a follows there, total_push path a ∙ ap (λ z. then z a.weight) sum)
 
   -- what waits is settled already
-  module _ (row : List (Option Delay)) (old new : List Waiting) (w : Waiting) (taken : IsPermutation old (w ∷ new)) (h : Searched row old) where
-    rest : (P : Waiting → Type 0) → All P old → All P new
+  module _ (row : List (Option Delay)) (old new : List FoundUnit) (w : FoundUnit) (taken : IsPermutation old (w ∷ new)) (h : Searched row old) where
+    rest : (P : FoundUnit → Type 0) → All P old → All P new
     rest P all = All-tail P w new (All-permutation P old (w ∷ new) taken all)
 
-    head : (P : Waiting → Type 0) → All P old → P w
+    head : (P : FoundUnit → Type 0) → All P old → P w
     head P all = All-head P w new (All-permutation P old (w ∷ new) taken all)
 
     pub next_within : w.unit < length arcs
-    next_within = head (λ (v : Waiting). v.unit < length arcs) h.within
+    next_within = head (λ (v : FoundUnit). v.unit < length arcs) h.within
 
     pub next_small : length arcs ≤ 2048 → (w.at.time < 2 ^ 62) × (w.at.step < 2 ^ 62)
     next_small few = let near : IsNear row w = head (IsNear row) h.near in let len = h.len in omega arith
@@ -144,10 +144,10 @@ module _ (arcs : List (List Arc)) (s : ℕ) where
       len = h.len;
       found = h.found;
       small = h.small;
-      waits = rest (λ (v : Waiting). Reaches v.unit v.at) h.waits;
-      within = rest (λ (v : Waiting). v.unit < length arcs) h.within;
+      waits = rest (λ (v : FoundUnit). Reaches v.unit v.at) h.waits;
+      within = rest (λ (v : FoundUnit). v.unit < length arcs) h.within;
       near = rest (IsNear row) h.near;
-      before = λ k d is. rest (λ (v : Waiting). AtMost d v.at) (h.before k d is);
+      before = λ k d is. rest (λ (v : FoundUnit). AtMost d v.at) (h.before k d is);
       start = still s zero_delay h.start;
       onward = λ j d is a there. still a.to (then d a.weight) (h.onward j d is a there);
     }
@@ -159,14 +159,14 @@ module _ (arcs : List (List Arc)) (s : ℕ) where
             inr (
               z.0,
               ⊎_elim
-                  (λ (same : z.1.one ≡ w). absurd (not_both (delay_at row k) e z.0 (subst (λ j. delay_at row j ≡ Some e) (sym (ap (λ (v : Waiting). v.unit) same) ∙ z.1.unit) settled)))
+                  (λ (same : z.1.one ≡ w). absurd (not_both (delay_at row k) e z.0 (subst (λ j. delay_at row j ≡ Some e) (sym (ap (λ (v : FoundUnit). v.unit) same) ∙ z.1.unit) settled)))
                   (λ (other : Contains new z.1.one). record { one = z.1.one; there = other; unit = z.1.unit; most = z.1.most })
                   (first_or_rest w z.1.one new (Contains-permutation old (w ∷ new) z.1.one taken z.1.there)),
             ))
             met
 
     -- what waits is settled now, and what its arcs lead to waits
-    module _ (newer : List Waiting) (pushed : IsPermutation (map (reached w.at) (filter (is_open (slice_set row w.unit (Some w.at))) (arcs_from arcs w.unit)) ++ new) newer) (fit : AreFit arcs) (first : HasLeastDelay w old) (none : delay_at row w.unit ≡ None) where
+    module _ (newer : List FoundUnit) (pushed : IsPermutation (map (reached w.at) (filter (is_open (slice_set row w.unit (Some w.at))) (arcs_from arcs w.unit)) ++ new) newer) (fit : AreFit arcs) (first : HasLeastDelay w old) (none : delay_at row w.unit ≡ None) where
       abbrev row_after : List (Option Delay)
       row_after = slice_set row w.unit (Some w.at)
 
@@ -187,7 +187,7 @@ module _ (arcs : List (List Arc)) (s : ℕ) where
       leads_on a there none = in_pass (is_open row_after) a (arcs_from arcs w.unit) there (none_open (delay_at row_after a.to) none)
 
       here : w.unit < length row
-      here = let less : w.unit < length arcs = head (λ (v : Waiting). v.unit < length arcs) h.within in let len = h.len in omega arith
+      here = let less : w.unit < length arcs = head (λ (v : FoundUnit). v.unit < length arcs) h.within in let len = h.len in omega arith
 
       by_place : (k : ℕ) → ((k ≡ w.unit) × (delay_at row_after k ≡ Some w.at)) ⊎ ((k ≢ w.unit) × (delay_at row_after k ≡ delay_at row k))
       by_place k = placed row w.unit k w.at here
@@ -199,13 +199,13 @@ module _ (arcs : List (List Arc)) (s : ℕ) where
       same_len = length-set row w.unit (Some w.at)
 
       -- what holds of the units reached now and of the rest
-      among : (P : Waiting → Type 0) → ((a : Arc) → IsIn a (arcs_from arcs w.unit) → P (reached w.at a)) → All P new → All P newer
+      among : (P : FoundUnit → Type 0) → ((a : Arc) → IsIn a (arcs_from arcs w.unit) → P (reached w.at a)) → All P new → All P newer
       among P reach others =
           All-permutation P (map (reached w.at) onwards ++ new) newer joined
           (All-append P (map (reached w.at) onwards) new (All-map P (reached w.at) onwards (all_in (λ a. P (reached w.at a)) onwards (λ a there. reach a (onwards_leave a there)))) others)
 
-      all_before : (d : Delay) → AtMost d w.at → All (λ (v : Waiting). AtMost d v.at) old → All (λ (v : Waiting). AtMost d v.at) newer
-      all_before d most all = among (λ (v : Waiting). AtMost d v.at) (λ a there. at_most_then d w.at a.weight most) (rest (λ (v : Waiting). AtMost d v.at) all)
+      all_before : (d : Delay) → AtMost d w.at → All (λ (v : FoundUnit). AtMost d v.at) old → All (λ (v : FoundUnit). AtMost d v.at) newer
+      all_before d most all = among (λ (v : FoundUnit). AtMost d v.at) (λ a there. at_most_then d w.at a.weight most) (rest (λ (v : FoundUnit). AtMost d v.at) all)
 
       -- each settled place: this one, or one that was
       settled_place : (P : ℕ → Delay → Type 0) → P w.unit w.at → ((k : ℕ) (d : Delay) → delay_at row k ≡ Some d → P k d) → (k : ℕ) (d : Delay) → delay_at row_after k ≡ Some d → P k d
@@ -216,7 +216,7 @@ module _ (arcs : List (List Arc)) (s : ℕ) where
 
       still_waits : (k : ℕ) (d : Delay) → k ≢ w.unit → Waits old k d → Waits newer k d
       still_waits k d other z = ⊎_elim
-          (λ (same : z.one ≡ w). absurd (other (sym z.unit ∙ ap (λ (v : Waiting). v.unit) same)))
+          (λ (same : z.one ≡ w). absurd (other (sym z.unit ∙ ap (λ (v : FoundUnit). v.unit) same)))
           (λ (there : Contains new z.one). record {
             one = z.one;
             there = Contains-permutation (map (reached w.at) onwards ++ new) newer z.one joined (Contains-append_right (map (reached w.at) onwards) new z.one there);
@@ -233,7 +233,7 @@ module _ (arcs : List (List Arc)) (s : ℕ) where
             is = place.1;
             most = ⊎_elim
                 (λ (z : Settled row k d). absurd (not_both (delay_at row k) z.at (subst (λ j. delay_at row j ≡ None) (sym place.0) none) z.is))
-                (λ (z : (delay_at row k ≡ None) × Waits old k d). at_most_trans w.at z.1.one.at d (All-contains (λ (v : Waiting). AtMost w.at v.at) old z.1.one first z.1.there) z.1.most)
+                (λ (z : (delay_at row k ≡ None) × Waits old k d). at_most_trans w.at z.1.one.at d (All-contains (λ (v : FoundUnit). AtMost w.at v.at) old z.1.one first z.1.there) z.1.most)
                 met;
           }))
           (λ (place : (k ≢ w.unit) × (delay_at row_after k ≡ delay_at row k)). ⊎_elim
@@ -261,7 +261,7 @@ module _ (arcs : List (List Arc)) (s : ℕ) where
             at = z.0;
             is = z.1;
             most = at_most_then z.0 w.at a.weight
-                (settled_place (λ k d. AtMost d w.at) (omega arith) (λ k d is. head (λ (v : Waiting). AtMost d v.at) (h.before k d is)) a.to z.0 z.1);
+                (settled_place (λ k d. AtMost d w.at) (omega arith) (λ k d is. head (λ (v : FoundUnit). AtMost d v.at) (h.before k d is)) a.to z.0 z.1);
           }))
           (cases_option (delay_at row_after a.to))
 
@@ -270,7 +270,7 @@ module _ (arcs : List (List Arc)) (s : ℕ) where
           (λ a there. near_one a (fit w.unit a there))
           (All-weaker (IsNear row) (IsNear row_after) near_still new (rest (IsNear row) h.near))
         where
-          near_still : (v : Waiting) → IsNear row v → IsNear row_after v
+          near_still : (v : FoundUnit) → IsNear row v → IsNear row_after v
           near_still v near = let f = fewer in let l = same_len in omega arith
 
           near_one : (a : Arc) → IsFit (length arcs) a → IsNear row_after (reached w.at a)
@@ -285,38 +285,38 @@ module _ (arcs : List (List Arc)) (s : ℕ) where
       pub settled_now : Searched (slice_set row w.unit (Some w.at)) newer
       settled_now = record {
         len = same_len ∙ h.len;
-        found = settled_place Reaches (head (λ (v : Waiting). Reaches v.unit v.at) h.waits) h.found;
+        found = settled_place Reaches (head (λ (v : FoundUnit). Reaches v.unit v.at) h.waits) h.found;
         small = settled_place (λ k d. (d.time ≤ length row_after * 1000000000000000) × (d.step ≤ length row_after))
             (let near : IsNear row w = head (IsNear row) h.near in let l = same_len in omega arith)
             (λ k d is. let was = h.small k d is in let l = same_len in omega arith);
-        waits = among (λ (v : Waiting). Reaches v.unit v.at) (λ a there. reaches_push w.unit w.at a (head (λ (v : Waiting). Reaches v.unit v.at) h.waits) there) (rest (λ (v : Waiting). Reaches v.unit v.at) h.waits);
-        within = among (λ (v : Waiting). v.unit < length arcs) (λ a there. (fit w.unit a there).to) (rest (λ (v : Waiting). v.unit < length arcs) h.within);
+        waits = among (λ (v : FoundUnit). Reaches v.unit v.at) (λ a there. reaches_push w.unit w.at a (head (λ (v : FoundUnit). Reaches v.unit v.at) h.waits) there) (rest (λ (v : FoundUnit). Reaches v.unit v.at) h.waits);
+        within = among (λ (v : FoundUnit). v.unit < length arcs) (λ a there. (fit w.unit a there).to) (rest (λ (v : FoundUnit). v.unit < length arcs) h.within);
         near = near_after;
-        before = settled_place (λ k d. All (λ (v : Waiting). AtMost d v.at) newer) (all_before w.at (omega arith) first)
-            (λ k d is. all_before d (head (λ (v : Waiting). AtMost d v.at) (h.before k d is)) (h.before k d is));
+        before = settled_place (λ k d. All (λ (v : FoundUnit). AtMost d v.at) newer) (all_before w.at (omega arith) first)
+            (λ k d is. all_before d (head (λ (v : FoundUnit). AtMost d v.at) (h.before k d is)) (h.before k d is));
         start = met_after s zero_delay h.start;
         onward = settled_place (λ j d. (a : Arc) → IsIn a (arcs_from arcs j) → Met row_after newer a.to (then d a.weight)) met_here
             (λ j d is a there. met_after a.to (then d a.weight) (h.onward j d is a there));
       }
 
   -- at the start only the first place waits
-  abbrev origin : Waiting
+  abbrev origin : FoundUnit
   origin = record { at = zero_delay; unit = s }
 
-  pub started : (row : List (Option Delay)) (waiting : List Waiting) → length row ≡ length arcs → s < length arcs → ((k : ℕ) → delay_at row k ≡ None) → IsPermutation (origin ∷ []) waiting → Searched row waiting
+  pub started : (row : List (Option Delay)) (waiting : List FoundUnit) → length row ≡ length arcs → s < length arcs → ((k : ℕ) → delay_at row k ≡ None) → IsPermutation (origin ∷ []) waiting → Searched row waiting
   started row waiting len less absent pushed = record {
     len = len;
     found = λ k d is. absurd (not_both (delay_at row k) d (absent k) is);
     small = λ k d is. absurd (not_both (delay_at row k) d (absent k) is);
-    waits = one (λ (v : Waiting). Reaches v.unit v.at) ([], refl, refl);
-    within = one (λ (v : Waiting). v.unit < length arcs) less;
+    waits = one (λ (v : FoundUnit). Reaches v.unit v.at) ([], refl, refl);
+    within = one (λ (v : FoundUnit). v.unit < length arcs) less;
     near = one (IsNear row) (let few : unsettled (λ k. 1) row ≤ length row = few_unsettled row in omega arith);
     before = λ k d is. absurd (not_both (delay_at row k) d (absent k) is);
     start = inr (absent s, record { one = origin; there = Contains-permutation (origin ∷ []) waiting origin pushed (zero, omega arith, refl); unit = refl; most = omega arith });
     onward = λ j d is. absurd (not_both (delay_at row j) d (absent j) is);
   }
     where
-      one : (P : Waiting → Type 0) → P origin → All P waiting
+      one : (P : FoundUnit → Type 0) → P origin → All P waiting
       one P p = All-permutation P (origin ∷ []) waiting pushed (All-cons P origin [] p (All-nil P))
 
   -- at the end nothing waits

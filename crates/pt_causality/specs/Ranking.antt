@@ -4,32 +4,32 @@ use Rattle.std.specs.List.{sum_by}
 use Rattle.pt_types.specs.declared.graph.Edge.{Edge}
 use Rattle.pt_semantics.specs.Lists.{Each, IsIn}
 use Rattle.pt_semantics.specs.Cycles.{Differ}
-use Rattle.pt_causality.specs.declared.places.Place.{Place}
-use Rattle.pt_causality.specs.declared.places.Mark.{Mark}
-use Rattle.pt_causality.specs.declared.places.Mark.TheVariants.{New, Open, Done}
+use Rattle.pt_causality.specs.declared.places.SearchState.{SearchState}
+use Rattle.pt_causality.specs.declared.places.SearchMark.{SearchMark}
+use Rattle.pt_causality.specs.declared.places.SearchMark.TheVariants.{New, Open, Done}
 use Rattle.pt_causality.specs.declared.cycle.CycleFault.{CycleFault}
 use Rattle.pt_causality.specs.declared.cycle.CycleFault.TheVariants.{Memory, Cycle}
 use Rattle.pt_causality.specs.Incoming.{into}
 use Rattle.pt_causality.specs.Places.{place_at}
 
 -- the number of times that the mark of an actor still changes
-abbrev pub marks_left : Mark → ℕ
+abbrev pub marks_left : SearchMark → ℕ
 marks_left New = 2
 marks_left Open = 1
 marks_left Done = 0
 
 -- a bound on the number of steps that the search still makes
-abbrev pub steps_left : List Place → ℕ
-steps_left places = sum_by (λ (p : Place). p.left + marks_left p.mark) places
+abbrev pub steps_left : List SearchState → ℕ
+steps_left places = sum_by (λ (p : SearchState). p.left + marks_left p.mark) places
 
-abbrev pub one_if_done : Mark → ℕ
+abbrev pub one_if_done : SearchMark → ℕ
 one_if_done New = 0
 one_if_done Open = 0
 one_if_done Done = 1
 
 -- the number of actors that are done
-abbrev pub done_count : List Place → ℕ
-done_count places = sum_by (λ (p : Place). one_if_done p.mark) places
+abbrev pub done_count : List SearchState → ℕ
+done_count places = sum_by (λ (p : SearchState). one_if_done p.mark) places
 
 -- the edges in a list lead to the actor of the list, and come from actors that have lists
 pub record AreEdgeLists (incoming : List (List Edge)) : Type 0 where
@@ -37,40 +37,40 @@ pub record AreEdgeLists (incoming : List (List Edge)) : Type 0 where
   pub from : (a : ℕ) (e : Edge) → IsIn e (into incoming a) → e.from < length incoming
 
 -- an edge leads from an actor that is done, and the actor that it leads to is higher
-pub record LiesAbove (e : Edge) (before p : Place) : Type 0 where
+pub record LiesAbove (e : Edge) (before p : SearchState) : Type 0 where
   pub done : before.mark ≡ Done
   pub level : before.level < p.level
   pub rank : e.weight.step ≡ 0 → before.rank < p.rank
 
 -- a number of an actor is one more than that of a done actor, from which such an edge leads to it
-pub record IsOneAbove (such : Edge → Type 0) (number : Place → ℕ) (at : ℕ → Place) (edges : List Edge) (p : Place) : Type 0 where
+pub record IsOneAbove (such : Edge → Type 0) (number : SearchState → ℕ) (at : ℕ → SearchState) (edges : List Edge) (p : SearchState) : Type 0 where
   pub edge : Edge
   pub in_list : IsIn edge edges
   pub such_edge : such edge
   pub done : (at edge.from).mark ≡ Done
   pub above : number p ≡ number (at edge.from) + 1
 
-abbrev pub Comes : (Edge → Type 0) → (Place → ℕ) → (ℕ → Place) → List Edge → Place → Type 0
+abbrev pub Comes : (Edge → Type 0) → (SearchState → ℕ) → (ℕ → SearchState) → List Edge → SearchState → Type 0
 Comes such number at edges p = (number p ≡ 0) ⊎ IsOneAbove such number at edges p
 
 -- the numbers so far: each is 0, or one above the greatest at the sources of the edges that were looked at
-pub record NumbersAreSettled (incoming : List (List Edge)) (at : ℕ → Place) (done : ℕ) : Type 0 where
+pub record NumbersAreSettled (incoming : List (List Edge)) (at : ℕ → SearchState) (done : ℕ) : Type 0 where
   pub left : (a : ℕ) → (at a).left ≤ length (into incoming a)
   pub looked : (a : ℕ) (e : Edge) → IsIn e (into incoming a) → IsIn e (take (at a).left (into incoming a)) ⊎ LiesAbove e (at e.from) (at a)
-  pub levels : (a : ℕ) → Comes (λ (e : Edge). Unit {0}) (λ (p : Place). p.level) at (into incoming a) (at a)
-  pub ranks : (a : ℕ) → Comes (λ (e : Edge). e.weight.step ≡ 0) (λ (p : Place). p.rank) at (into incoming a) (at a)
+  pub levels : (a : ℕ) → Comes (λ (e : Edge). Unit {0}) (λ (p : SearchState). p.level) at (into incoming a) (at a)
+  pub ranks : (a : ℕ) → Comes (λ (e : Edge). e.weight.step ≡ 0) (λ (p : SearchState). p.rank) at (into incoming a) (at a)
   pub finished : (a : ℕ) → (at a).mark ≡ Done → (at a).left ≡ 0
   pub few : (a : ℕ) → (at a).level + one_if_done (at a).mark ≤ done
   pub small : (a : ℕ) → (at a).rank ≤ (at a).level
 
 -- no walk is under way: each actor is new or done
-pub record Rests (incoming : List (List Edge)) (places : List Place) : Type 0 where
+pub record Rests (incoming : List (List Edge)) (places : List SearchState) : Type 0 where
   pub long : length places ≡ length incoming
   pub settled : NumbersAreSettled incoming (place_at places) (done_count places)
   pub none_open : (a : ℕ) → (place_at places a).mark ≢ Open
 
 -- each actor is done
-pub record ActorsAreDone (incoming : List (List Edge)) (places : List Place) : Type 0 where
+pub record ActorsAreDone (incoming : List (List Edge)) (places : List SearchState) : Type 0 where
   pub long : length places ≡ length incoming
   pub settled : NumbersAreSettled incoming (place_at places) (done_count places)
   pub done : (a : ℕ) → a < length incoming → (place_at places a).mark ≡ Done
@@ -90,7 +90,7 @@ abbrev pub walked : ℕ → List Edge → List ℕ
 walked top trail = top ∷ map (λ (e : Edge). e.to) trail
 
 -- the walk has gone back from its root to its top along this trail, and exactly the actors along it are open
-pub record IsWalk (incoming : List (List Edge)) (places : List Place) (top : ℕ) (trail : List Edge) : Type 0 where
+pub record IsWalk (incoming : List (List Edge)) (places : List SearchState) (top : ℕ) (trail : List Edge) : Type 0 where
   pub long : length places ≡ length incoming
   pub settled : NumbersAreSettled incoming (place_at places) (done_count places)
   pub root : ℕ

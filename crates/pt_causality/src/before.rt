@@ -1,11 +1,11 @@
 //! The units from which a path leads to each unit, as bits.
 
 ghost use Rattle.std.specs.Prelude.{◌≡◌, ◌≤◌, IfOk, length};
-ghost use Rattle.pt_types.specs.declared.graph.Unit.{Unit as Part};
+ghost use Rattle.pt_types.specs.declared.graph.Unit.{Unit};
 ghost use Rattle.pt_causality.specs.Before.{RowsAreListed, HaveMore, MayBeListed, MayHave};
 ghost use Rattle.pt_causality.specs.Cells.{number_in, delay_row_at};
 
-use crate::row::Row;
+use crate::row::DelayRow;
 use crate::units::Numbers;
 use pt_types::Unit;
 use std::alloc::{AllocError, Global};
@@ -43,7 +43,7 @@ impl Before {
     /// Adds a unit, if there is room for it.
     fn add(&mut self, unit: Unit)
         ensures listed { MayHave self.new unit }
-        ensures others { (x : Part) → MayHave self.old x → MayHave self.new x }
+        ensures others { (x : Unit) → MayHave self.old x → MayHave self.new x }
     {
         let place = 8 * unit.actor as usize + unit.group as usize;
         let word = place / 64;
@@ -64,7 +64,7 @@ fn none_listed(alloc: Global, count: usize, actors: usize) -> Result<Vec<Before>
 }
 
 /// Adds a unit to the list of each place at which its row has a delay.
-fn list_by_row(lists: &mut [Before], row: &Row, unit: Unit)
+fn list_by_row(lists: &mut [Before], row: &DelayRow, unit: Unit)
     ensures listed { MayBeListed row.now lists.new unit }
     ensures others { HaveMore lists.old lists.new }
 {
@@ -77,7 +77,7 @@ fn list_by_row(lists: &mut [Before], row: &Row, unit: Unit)
 }
 
 /// Adds a unit to the list of each unit to which a path leads from it.
-fn list_unit(lists: &mut [Before], numbers: &Numbers, rows: &[Row], unit: Unit)
+fn list_unit(lists: &mut [Before], numbers: &Numbers, rows: &[DelayRow], unit: Unit)
     ensures listed { MayBeListed (delay_row_at rows.now (number_in numbers.now.firsts.items unit)) lists.new unit }
     ensures others { HaveMore lists.old lists.new }
 {
@@ -88,9 +88,9 @@ fn list_unit(lists: &mut [Before], numbers: &Numbers, rows: &[Row], unit: Unit)
 }
 
 /// Adds the units of an actor to these lists.
-fn list_actor(lists: &mut [Before], numbers: &Numbers, rows: &[Row], actor: u32)
+fn list_actor(lists: &mut [Before], numbers: &Numbers, rows: &[DelayRow], actor: u32)
     requires few { length rows.now ≤ 2048 }
-    ensures listed { (x : Part) → x.actor ≡ actor → MayBeListed (delay_row_at rows.now (number_in numbers.now.firsts.items x)) lists.new x }
+    ensures listed { (x : Unit) → x.actor ≡ actor → MayBeListed (delay_row_at rows.now (number_in numbers.now.firsts.items x)) lists.new x }
     ensures others { HaveMore lists.old lists.new }
 {
     for group in 0..numbers.groups(actor) {
@@ -99,7 +99,11 @@ fn list_actor(lists: &mut [Before], numbers: &Numbers, rows: &[Row], actor: u32)
 }
 
 /// The units from which a path leads to each unit; lists are by the numbers of the units.
-pub fn all_before(alloc: Global, numbers: &Numbers, rows: &[Row]) -> Result<Vec<Before>, AllocError>
+pub fn all_before(
+    alloc: Global,
+    numbers: &Numbers,
+    rows: &[DelayRow],
+) -> Result<Vec<Before>, AllocError>
     requires actors { length numbers.now.firsts.items ≤ 2048 }
     requires few { length rows.now ≤ 2048 }
     ensures { IfOk result (λ lists. RowsAreListed numbers.now.firsts.items rows.now lists.items) }

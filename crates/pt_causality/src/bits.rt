@@ -3,7 +3,7 @@
 ghost use Rattle.std.specs.Prelude.{◌≡◌, ◌≢◌, ◌*◌, ◌<◌, ℕ, length};
 ghost use Rattle.pt_causality.specs.Before.{bit_of};
 
-/// Sets a bit.
+/// Sets a bit: place 66 is bit 2 of word 1.
 #[inline(always)]
 pub fn set_bit(words: &mut Vec<u64>, place: usize)
     requires { place < 64 * length words.old.items }
@@ -14,7 +14,7 @@ pub fn set_bit(words: &mut Vec<u64>, place: usize)
     words[place / 64] |= 1 << (place % 64);
 }
 
-/// Clears a bit.
+/// Clears a bit, by its place as in `set_bit`.
 #[inline(always)]
 pub fn clear_bit(words: &mut Vec<u64>, place: usize)
     requires { place < 64 * length words.old.items }

@@ -12,6 +12,9 @@ use std::alloc::Global;
 
 /// The least delay between any two units of a graph, and the rank and the level of each actor; or a cycle that takes no
 /// time, from its actor with the least number on.
+///
+/// Sensor 0, a delay 1 of 100 us and actuator 2, wired in a row: the least delay from 0 to 1 is zero, and from 0 to 2 it is
+/// 100 us. The levels are 0, 1 and 0, since the wire that leaves the delay takes time.
 pub fn causality(alloc: Global, graph: &Graph) -> Result<(Least, Ranks), CycleFault>
     requires lawful { IsLawful graph.now }
     ensures least { IfOk result (λ both. AreLeast graph.now (least_of both.0)) }

@@ -18,7 +18,8 @@ pub struct Branches {
     pub next: Vec<usize>,
 }
 
-/// The chains of wires of a graph, built from the last wire to the first.
+/// The chains of wires of a graph, built from the last wire to the first. If wires 0 and 2 of three leave actor 1, its chain
+/// begins with `first[1] = 0`, goes on with `next[0] = 2` and ends with `next[2] = 3`.
 pub fn find_branches(alloc: Global, graph: &Graph) -> Result<Branches, Memory>
     requires lawful { IsLawful graph.now }
     ensures { IfOk result (AreBranches graph.now) }

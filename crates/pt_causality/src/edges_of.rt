@@ -9,7 +9,8 @@ use pt_tags::{Delay, List};
 use pt_types::{Actor, Edge, Graph, Kind, Link, Wire};
 use std::alloc::{AllocError, Global};
 
-/// The delay that an output of this kind adds to a tag.
+/// The delay that an output of this kind adds to a tag: that of a delay of 100 us adds 100 us, that of a delay of 0 us one
+/// step, and that of a scale nothing.
 pub fn weight(kind: &Kind, output: u32) -> Delay
     ensures { result ≡ weight kind.now output }
 {

@@ -13,7 +13,7 @@ use std::marker::Model;
 
 /// A unit, by its number, and the delay of a path to it.
 #[derive(Clone, Copy, PartialEq, Eq, PartialOrd, Ord)]
-pub struct Waiting {
+pub struct FoundUnit {
     pub at: Delay,
     pub unit: u32,
 }
@@ -27,14 +27,14 @@ pub struct Frontier {
     now: Delay,
     /// The units that are pending at `now`, by their numbers.
     ready: Vec<u32>,
-    later: BinaryHeap<Reverse<Waiting>>,
+    later: BinaryHeap<Reverse<FoundUnit>>,
 }
 
 impl Model for Frontier {
     ghost use Rattle.std.specs.Prelude.{List as Items, map, ◌++◌};
     ghost use Rattle.std.specs.BinaryHeap.{heap_items, IsHeap};
     ghost use Rattle.pt_causality.specs.Waits.{compared, waiting_at};
-    ghost use Rattle.pt_causality.specs.declared.frontier.Waiting.{Waiting as Item};
+    ghost use Rattle.pt_causality.specs.declared.frontier.FoundUnit.{FoundUnit as Item};
 
     ghost Value = { Items Item };
 
@@ -56,7 +56,7 @@ impl Frontier {
     }
 
     /// Adds a unit.
-    pub fn push(&mut self, unit: Waiting) -> Result<(), AllocError>
+    pub fn push(&mut self, unit: FoundUnit) -> Result<(), AllocError>
         ensures { OnOk result (IsPermutation (unit ∷ self.old) self.new) }
     {
         if unit.at == self.now {
@@ -68,7 +68,7 @@ impl Frontier {
     }
 
     /// Takes a unit with the least delay.
-    pub fn pop(&mut self) -> Option<Waiting>
+    pub fn pop(&mut self) -> Option<FoundUnit>
         ensures taken { IfSome result (λ w. IsPermutation self.old (w ∷ self.new)) }
         ensures first { IfSome result (λ w. HasLeastDelay w self.old) }
         ensures none { IfNone result (self.old ≡ []) }
@@ -89,14 +89,14 @@ impl Frontier {
             };
         }
         match self.ready.pop() {
-            Some(unit) => Some(Waiting { at: self.now, unit }),
+            Some(unit) => Some(FoundUnit { at: self.now, unit }),
             None => None,
         }
     }
 }
 
 /// Whether a unit in the heap has a delay less than `now`.
-fn is_before(later: &BinaryHeap<Reverse<Waiting>>, now: Delay) -> bool
+fn is_before(later: &BinaryHeap<Reverse<FoundUnit>>, now: Delay) -> bool
     requires { IsHeap (λ x y. compared y.0 x.0) (heap_items later.now) }
     ensures none { result ≡ false → NoneBefore now (heap_items later.now) }
     ensures some { result ≡ true → SomeBefore now (heap_items later.now) }

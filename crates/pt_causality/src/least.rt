@@ -6,7 +6,7 @@ ghost use Rattle.pt_causality.specs.Before.{RowsAreListed};
 
 use crate::arcs::arcs_by_unit;
 use crate::before::{Before, all_before};
-use crate::row::Row;
+use crate::row::DelayRow;
 use crate::table::all_rows;
 use crate::units::Numbers;
 use crate::wire_edges;
@@ -19,7 +19,7 @@ use std::alloc::{AllocError, Global};
 pub struct Least {
     numbers: Numbers,
     /// One row for each unit, one delay for each unit, by their numbers.
-    rows: Vec<Row>,
+    rows: Vec<DelayRow>,
     /// By the number of the unit to which the paths lead; empty if there are no lists.
     before: Vec<Before>,
     ghost listed: { RowsAreListed numbers.firsts.items rows.items before.items },
@@ -28,7 +28,7 @@ pub struct Least {
 
 impl Least {
     ghost use Rattle.std.specs.Prelude.{ℕ};
-    ghost use Rattle.pt_types.specs.declared.graph.Unit.{Unit as Part};
+    ghost use Rattle.pt_types.specs.declared.graph.Unit.{Unit};
     ghost use Rattle.pt_causality.specs.Delays.{least_of, number_of, AreLeast, AreSmall, HasAllBefore};
 
     /// Computes all least delays of a graph.
@@ -82,7 +82,7 @@ impl Least {
     /// The least delay of all paths from the unit with this number to `a`; `None` if no path leads there.
     #[inline(always)]
     pub fn get_from(&self, number: usize, a: Unit) -> Option<Delay>
-        ensures { (x : Part) → number ≡ number_of self.now x → result ≡ least_of self.now x a }
+        ensures { (x : Unit) → number ≡ number_of self.now x → result ≡ least_of self.now x a }
     {
         let row = self.rows.get(number)?;
         row.get(self.numbers.of(a))

@@ -10,7 +10,7 @@ use std::alloc::{AllocError, Global};
 
 /// The progress of the search at an actor.
 #[derive(Clone, Copy, Debug, PartialEq, Eq)]
-pub enum Mark {
+pub enum SearchMark {
     /// The search has not met it.
     New,
     /// The walk leads through it.
@@ -21,10 +21,10 @@ pub enum Mark {
 
 /// The state of the search at an actor.
 #[derive(Clone, Copy, Debug, PartialEq, Eq)]
-pub struct Place {
+pub struct SearchState {
     /// The number of edges to it that are still to be looked at.
     pub left: usize,
-    pub mark: Mark,
+    pub mark: SearchMark,
     /// One more than the greatest level at the source of an edge that was looked at, or 0.
     pub level: u32,
     /// The same for ranks, over the edges that add no delay.
@@ -32,14 +32,14 @@ pub struct Place {
 }
 
 /// The state of each actor before the search, from the edges to it.
-pub fn fresh(alloc: Global, incoming: &[List<Edge>]) -> Result<Vec<Place>, AllocError>
+pub fn fresh(alloc: Global, incoming: &[List<Edge>]) -> Result<Vec<SearchState>, AllocError>
     ensures { IfOk result (λ places. places.items ≡ map fresh_place incoming.now) }
 {
     incoming
         .iter()
-        .map(|edges| Place {
+        .map(|edges| SearchState {
             left: edges.as_slice().len(),
-            mark: Mark::New,
+            mark: SearchMark::New,
             level: 0,
             rank: 0,
         })
@@ -47,7 +47,7 @@ pub fn fresh(alloc: Global, incoming: &[List<Edge>]) -> Result<Vec<Place>, Alloc
 }
 
 /// The next edge to an actor to look at; `None` if all were.
-pub fn next_edge(incoming: &[List<Edge>], places: &[Place], actor: u32) -> Option<Edge>
+pub fn next_edge(incoming: &[List<Edge>], places: &[SearchState], actor: u32) -> Option<Edge>
     requires actor { actor < length places.now }
     requires lists { length incoming.now ≡ length places.now }
     requires left { (place_at places.now actor).left ≤ length (into incoming.now actor) }
@@ -61,7 +61,7 @@ pub fn next_edge(incoming: &[List<Edge>], places: &[Place], actor: u32) -> Optio
 }
 
 /// Sets the mark of an actor.
-pub fn set_mark(places: &mut Vec<Place>, actor: u32, mark: Mark)
+pub fn set_mark(places: &mut Vec<SearchState>, actor: u32, mark: SearchMark)
     requires { actor < length places.old.items }
     ensures { places.new.items ≡ slice_set places.old.items actor (marked mark (place_at places.old.items actor)) }
 {
@@ -69,7 +69,7 @@ pub fn set_mark(places: &mut Vec<Place>, actor: u32, mark: Mark)
 }
 
 /// The state of an actor after an edge to it was looked at; `before` is the state at the edge's source.
-fn looked(before: Place, edge: Edge, place: Place) -> Place
+fn looked(before: SearchState, edge: Edge, place: SearchState) -> SearchState
     requires left { 0 < place.left }
     requires level { before.level + 1 < 2 ^ 32 }
     requires rank { before.rank + 1 < 2 ^ 32 }
@@ -80,7 +80,7 @@ fn looked(before: Place, edge: Edge, place: Place) -> Place
     } else {
         place.rank
     };
-    Place {
+    SearchState {
         left: place.left - 1,
         mark: place.mark,
         level: place.level.max(before.level + 1),
@@ -89,7 +89,7 @@ fn looked(before: Place, edge: Edge, place: Place) -> Place
 }
 
 /// Looks at an edge to an actor.
-pub fn look(places: &mut Vec<Place>, actor: u32, edge: Edge)
+pub fn look(places: &mut Vec<SearchState>, actor: u32, edge: Edge)
     requires actor { actor < length places.old.items }
     requires from { edge.from < length places.old.items }
     requires left { 0 < (place_at places.old.items actor).left }

@@ -5,7 +5,7 @@ ghost use Rattle.pt_causality.specs.Places.{place_at};
 ghost use Rattle.pt_causality.specs.Ranking.{ActorsAreDone, AreEdgeLists, IsWalk, MeetsRing, Rests, WentBack, marks_left, steps_left};
 
 use crate::cycle::CycleFault;
-use crate::places::{Mark, Place, fresh, look, next_edge, set_mark};
+use crate::places::{SearchMark, SearchState, fresh, look, next_edge, set_mark};
 use crate::ring::ring_at;
 use pt_tags::List;
 use pt_types::Edge;
@@ -25,7 +25,7 @@ fn go_back(trail: &mut Vec<Edge>) -> Option<u32>
 fn step(
     alloc: Global,
     incoming: &[List<Edge>],
-    places: &mut Vec<Place>,
+    places: &mut Vec<SearchState>,
     trail: &mut Vec<Edge>,
     top: u32,
 ) -> Result<Option<u32>, CycleFault>
@@ -38,19 +38,19 @@ fn step(
     ensures ring { IfErr result (MeetsRing incoming.now) }
 {
     let Some(edge) = next_edge(incoming, places.as_slice(), top) else {
-        set_mark(places, top, Mark::Done);
+        set_mark(places, top, SearchMark::Done);
         return Ok(go_back(trail));
     };
     match places[edge.from as usize].mark {
-        Mark::New => {
-            set_mark(places, edge.from, Mark::Open);
+        SearchMark::New => {
+            set_mark(places, edge.from, SearchMark::Open);
             let Ok(()) = trail.push(edge) else {
                 return Err(CycleFault::Memory);
             };
             Ok(Some(edge.from))
         }
-        Mark::Open => Err(ring_at(alloc, trail.as_slice(), edge)),
-        Mark::Done => {
+        SearchMark::Open => Err(ring_at(alloc, trail.as_slice(), edge)),
+        SearchMark::Done => {
             look(places, top, edge);
             Ok(Some(top))
         }
@@ -61,22 +61,22 @@ fn step(
 fn finish(
     alloc: Global,
     incoming: &[List<Edge>],
-    places: &mut Vec<Place>,
+    places: &mut Vec<SearchState>,
     root: u32,
 ) -> Result<(), CycleFault>
     requires few { length incoming.now + 1 < 2 ^ 32 }
     requires joined { AreEdgeLists incoming.now }
     requires rests { Rests incoming.now places.old.items }
     requires root { root < length places.old.items }
-    requires new { (place_at places.old.items root).mark ≡ Mark.New }
+    requires new { (place_at places.old.items root).mark ≡ SearchMark.New }
     ensures rests { OnOk result (Rests incoming.now places.new.items) }
-    ensures done { OnOk result ((place_at places.new.items root).mark ≡ Mark.Done) }
+    ensures done { OnOk result ((place_at places.new.items root).mark ≡ SearchMark.Done) }
     ensures keeps { OnOk result ((a : ℕ) → marks_left (place_at places.new.items a).mark ≤ marks_left (place_at places.old.items a).mark) }
     ensures ring { IfErr result (MeetsRing incoming.now) }
 {
     let mut trail = Vec::new(alloc);
     let mut top = root;
-    set_mark(places, root, Mark::Open);
+    set_mark(places, root, SearchMark::Open);
     while let Some(next) = step(alloc, incoming, places, &mut trail, top)? {
         top = next;
     }
@@ -87,7 +87,7 @@ fn finish(
 fn visit(
     alloc: Global,
     incoming: &[List<Edge>],
-    places: &mut Vec<Place>,
+    places: &mut Vec<SearchState>,
     actor: u32,
 ) -> Result<(), CycleFault>
     requires few { length incoming.now + 1 < 2 ^ 32 }
@@ -95,18 +95,18 @@ fn visit(
     requires rests { Rests incoming.now places.old.items }
     requires actor { actor < length places.old.items }
     ensures rests { OnOk result (Rests incoming.now places.new.items) }
-    ensures done { OnOk result ((place_at places.new.items actor).mark ≡ Mark.Done) }
+    ensures done { OnOk result ((place_at places.new.items actor).mark ≡ SearchMark.Done) }
     ensures keeps { OnOk result ((a : ℕ) → marks_left (place_at places.new.items a).mark ≤ marks_left (place_at places.old.items a).mark) }
     ensures ring { IfErr result (MeetsRing incoming.now) }
 {
     match places[actor as usize].mark {
-        Mark::New => finish(alloc, incoming, places, actor),
-        Mark::Open | Mark::Done => Ok(()),
+        SearchMark::New => finish(alloc, incoming, places, actor),
+        SearchMark::Open | SearchMark::Done => Ok(()),
     }
 }
 
 /// The final state of all actors, each of which is done; or a cycle.
-pub fn visit_all(alloc: Global, incoming: &[List<Edge>]) -> Result<Vec<Place>, CycleFault>
+pub fn visit_all(alloc: Global, incoming: &[List<Edge>]) -> Result<Vec<SearchState>, CycleFault>
     requires few { length incoming.now + 1 < 2 ^ 32 }
     requires joined { AreEdgeLists incoming.now }
     ensures done { IfOk result (λ places. ActorsAreDone incoming.now places.items) }

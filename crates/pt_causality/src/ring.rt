@@ -46,7 +46,7 @@ fn least_place(numbers: &[u32]) -> usize
     best
 }
 
-/// Rotates a ring of numbers, at least one, so that the least number is the first.
+/// Rotates a ring of numbers, at least one, so that the least number is the first: 5, 2, 7 become 2, 7, 5.
 pub fn rotate_to_least(numbers: &mut Vec<u32>)
     requires { 0 < length numbers.old.items }
     ensures { IsRotated numbers.old.items numbers.new.items }

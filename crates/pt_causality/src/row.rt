@@ -15,11 +15,11 @@ const ABSENT: Delay = Delay {
 
 /// An optional delay at each place. Contracts see a list of options.
 #[derive(Drop)]
-pub struct Row {
+pub struct DelayRow {
     cells: Vec<Delay>,
 }
 
-impl Model for Row {
+impl Model for DelayRow {
     ghost use Rattle.std.specs.Prelude.{List as Items, Option as Maybe, map};
     ghost use Rattle.pt_tags.specs.declared.tag.Delay.{Delay as Time};
     ghost use Rattle.pt_causality.specs.Cells.{held_in};
@@ -29,14 +29,14 @@ impl Model for Row {
     ghost view = { λ r. map held_in r.cells.items };
 }
 
-impl Row {
+impl DelayRow {
     /// A row of `len` places without delays.
-    pub fn new(alloc: Global, len: usize) -> Result<Row, AllocError>
+    pub fn new(alloc: Global, len: usize) -> Result<DelayRow, AllocError>
         ensures len { IfOk result (λ row. length row ≡ len) }
         ensures absent { IfOk result (λ row. (k : ℕ) → delay_at row k ≡ None) }
     {
         let cells = vec![in alloc; ABSENT; len]?;
-        Ok(Row { cells })
+        Ok(DelayRow { cells })
     }
 
     /// The delay at a place; `None` if there is none, or no such place.

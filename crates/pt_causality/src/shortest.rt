@@ -8,13 +8,13 @@ ghost use Rattle.pt_causality.specs.Arcs.{AreFit, HasLeastDelays, IsSmallRow};
 ghost use Rattle.pt_causality.specs.Waits.{is_open, reached};
 
 use crate::arcs::{Arc, Leaving};
-use crate::frontier::{Frontier, Waiting};
-use crate::row::Row;
+use crate::frontier::{FoundUnit, Frontier};
+use crate::row::DelayRow;
 use pt_tags::Delay;
 use std::alloc::{AllocError, Global};
 
 /// Makes all units pending to which arcs lead from a place at delay `at`, except those that are settled.
-fn reach(frontier: &mut Frontier, row: &Row, at: Delay, arcs: &[Arc]) -> Result<(), AllocError>
+fn reach(frontier: &mut Frontier, row: &DelayRow, at: Delay, arcs: &[Arc]) -> Result<(), AllocError>
     requires small { (at.time < 2 ^ 62) × (at.step < 2 ^ 62) }
     requires fit { (a : Arc) → IsIn a arcs.now → (a.weight.time ≤ 1000000000000000) × (a.weight.step ≤ 1) }
     ensures { OnOk result (IsPermutation (map (reached at) (filter (is_open row.now) arcs.now) ++ frontier.old) frontier.new) }
@@ -24,7 +24,7 @@ fn reach(frontier: &mut Frontier, row: &Row, at: Delay, arcs: &[Arc]) -> Result<
         if is_open {
             let time = at.time + arc.weight.time;
             let step = at.step + arc.weight.step;
-            frontier.push(Waiting {
+            frontier.push(FoundUnit {
                 at: Delay { time, step },
                 unit: arc.to,
             })?;
@@ -34,16 +34,16 @@ fn reach(frontier: &mut Frontier, row: &Row, at: Delay, arcs: &[Arc]) -> Result<
 }
 
 /// The least delays from place `start` to each place.
-pub fn row_from(alloc: Global, arcs: &[Leaving], start: u32) -> Result<Row, AllocError>
+pub fn row_from(alloc: Global, arcs: &[Leaving], start: u32) -> Result<DelayRow, AllocError>
     requires start { start < length arcs.now }
     requires few { length arcs.now ≤ 2048 }
     requires fit { AreFit arcs.now }
     ensures row { IfOk result (HasLeastDelays arcs.now start) }
     ensures small { IfOk result IsSmallRow }
 {
-    let mut row = Row::new(alloc, arcs.len())?;
+    let mut row = DelayRow::new(alloc, arcs.len())?;
     let mut frontier = Frontier::new(alloc);
-    frontier.push(Waiting {
+    frontier.push(FoundUnit {
         at: Delay { time: 0, step: 0 },
         unit: start,
     })?;

@@ -5,12 +5,12 @@ ghost use Rattle.pt_causality.specs.Arcs.{AreFit, HasLeastDelays, IsSmallRow};
 ghost use Rattle.pt_causality.specs.Cells.{delay_row_at};
 
 use crate::arcs::Leaving;
-use crate::row::Row;
+use crate::row::DelayRow;
 use crate::shortest::row_from;
 use std::alloc::{AllocError, Global};
 
 /// The least delays from each place to each other.
-pub fn all_rows(alloc: Global, arcs: &[Leaving]) -> Result<Vec<Row>, AllocError>
+pub fn all_rows(alloc: Global, arcs: &[Leaving]) -> Result<Vec<DelayRow>, AllocError>
     requires few { length arcs.now ≤ 2048 }
     requires fit { AreFit arcs.now }
     ensures len { IfOk result (λ rows. length rows.items ≡ length arcs.now) }

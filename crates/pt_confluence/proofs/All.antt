@@ -6,7 +6,7 @@ use Rattle.std.proofs.lemmas.List.{take_more}
 use Rattle.std.proofs.lemmas.List.Elements.{filter_map-append}
 use Rattle.pt_types.specs.declared.firing.ActorFiring.{ActorFiring}
 use Rattle.pt_types.specs.declared.graph.Graph.{Graph}
-use Rattle.pt_types.specs.declared.graph.Unit.{Unit as Part}
+use Rattle.pt_types.specs.declared.graph.Unit.{Unit}
 use Rattle.pt_types.specs.declared.rows.Row.{Row}
 use Rattle.pt_semantics.specs.Lists.{IsIn}
 use Rattle.pt_semantics.specs.Behaviours.{Behaves, Everywhere}
@@ -44,13 +44,13 @@ legal_more platforms i v lt at are is =
     subst AreLegal (ap (λ (w : PlatformView). take i platforms ++ w ∷ []) at ∙ sym (take_more platforms i v lt)) (legal_push (take i platforms) v are is)
 
 -- the claims of a unit are its tasks' firings
-claims_are : (g : Graph) (u : Part) (turns : List Turn) → filter_map (of_unit g u) (flat_map (λ (turn : Turn). turn.claimed) turns) ≡ claims_of g turns u
+claims_are : (g : Graph) (u : Unit) (turns : List Turn) → filter_map (of_unit g u) (flat_map (λ (turn : Turn). turn.claimed) turns) ≡ claims_of g turns u
 claims_are g u [] = refl
 claims_are g u (turn ∷ turns) =
     filter_map-append (of_unit g u) turn.claimed (flat_map (λ (t : Turn). t.claimed) turns)
     ∙ ap (λ xs. filter_map (of_unit g u) turn.claimed ++ xs) (claims_are g u turns)
 
-all_claims_are : (g : Graph) (u : Part) (platforms : List PlatformView) → filter_map (of_unit g u) (flat_map claimed_tasks platforms) ≡ flat_map (λ (v : PlatformView). claims_of g v.turns u) platforms
+all_claims_are : (g : Graph) (u : Unit) (platforms : List PlatformView) → filter_map (of_unit g u) (flat_map claimed_tasks platforms) ≡ flat_map (λ (v : PlatformView). claims_of g v.turns u) platforms
 all_claims_are g u [] = refl
 all_claims_are g u (v ∷ platforms) =
     filter_map-append (of_unit g u) (claimed_tasks v) (flat_map claimed_tasks platforms)
@@ -137,13 +137,13 @@ module _ (plan : Parts) (rows : ℕ → List Row) (platforms : List PlatformView
   pub behaves : Behaves g (opening g rows) Everywhere (all_claims g (histories_of platforms))
   behaves = histories_behave g level rows (histories_of platforms) ends is_wired admitted.levels run.fit legal_at finished_at run.linked
 
-  elsewhere : (u : Part) (i : ℕ) (v : PlatformView) → slice_get platforms i ≡ Some v → i ≢ platform_of g u.actor → claims_of g v.turns u ≡ []
+  elsewhere : (u : Unit) (i : ℕ) (v : PlatformView) → slice_get platforms i ≡ Some v → i ≢ platform_of g u.actor → claims_of g v.turns u ≡ []
   elsewhere u i v there ne =
       nothing_in (claims_of g v.turns u)
       (λ x mem. ne (sym ((home_holds g level i rows v.turns (state_at v) is_wired (levels_grow g level admitted.levels) run.fit (legal i v there).leads).claims u x mem)))
 
   -- the tasks of a unit, of all platforms, are its claims
-  pub claimed : (u : Part) → filter_map (of_unit g u) (flat_map claimed_tasks platforms) ≡ all_claims g (histories_of platforms) u
+  pub claimed : (u : Unit) → filter_map (of_unit g u) (flat_map claimed_tasks platforms) ≡ all_claims g (histories_of platforms) u
   claimed u =
       let (v, there) = platform_at (platform_of g u.actor) (is_wired.homes u.actor) in
       all_claims_are g u platforms

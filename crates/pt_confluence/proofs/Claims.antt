@@ -7,7 +7,7 @@ use Rattle.pt_tags.specs.declared.tag.Tag.{Tag}
 use Rattle.pt_types.specs.Ports.{at_port, eight, when}
 use Rattle.pt_types.specs.declared.firing.Task.{Task}
 use Rattle.pt_types.specs.declared.graph.Graph.{Graph}
-use Rattle.pt_types.specs.declared.graph.Unit.{Unit as Part}
+use Rattle.pt_types.specs.declared.graph.Unit.{Unit}
 use Rattle.pt_types.specs.declared.kind.Kind.{Kind}
 use Rattle.pt_types.specs.declared.kind.Kind.TheVariants.{Lanes}
 use Rattle.pt_semantics.specs.Behaviours.{Behaves, Everywhere, Firing, Firings, Rising, comes, firing_at, state_before}
@@ -58,7 +58,7 @@ value_from {X = X} {Y = Y} h (z ∷ xs) y mem = by (h z) refl (value_from h xs y
         (λ (later : IsIn y (filter_map h xs)). let (x, at, e) = on later in (x, inr at, e))
         m
 
-part_from : (u v : Part) → u.actor ≡ v.actor → u.group ≡ v.group → u ≡ v
+part_from : (u v : Unit) → u.actor ≡ v.actor → u.group ≡ v.group → u ≡ v
 part_from u v a b = λ i. record { actor = a i; group = b i }
 
 -- an actor has one group, or it is lanes
@@ -93,13 +93,13 @@ each_push P (y ∷ ys) x h p = (h.0, each_push P ys x h.1 p)
 
 module _ (g : Graph) (given : Values) (f : Firings) (behaves : Behaves g given Everywhere f) where
   -- a firing does what comes to its unit
-  pub record Reacts (u : Part) (x : Firing) : Type 0 where
+  pub record Reacts (u : Unit) (x : Firing) : Type 0 where
     pub inputs : x.inputs ≡ unit_inputs g (comes g given f) u x.tag
     pub present : any_present x.inputs ≡ true
     pub before : x.before ≡ state_before (first_state (kind_of g u.actor)) (f u) x.tag
     pub after : x.after ≡ (fired (kind_of g u.actor) x.before x.inputs).state
 
-  pub reacts : (u : Part) (x : Firing) → IsIn x (f u) → Reacts u x
+  pub reacts : (u : Unit) (x : Firing) → IsIn x (f u) → Reacts u x
   reacts u x mem =
       let found = when_found (any_present (unit_inputs g (comes g given f) u x.tag)) _ x (sym (behaves.reacts u x.tag tt) ∙ rising_at (f u) x (behaves.rising u) mem) in
       let is = same_some _ x found.1 in
@@ -112,7 +112,7 @@ module _ (g : Graph) (given : Values) (f : Firings) (behaves : Behaves g given E
         after = sym (ap (λ (y : Firing). y.after) is) ∙ ap₂ (λ q i. (fired (kind_of g u.actor) q i).state) was ins;
       }
 
-  lanes_from : (u : Part) (cells : List ℕ) → kind_of g u.actor ≡ Lanes cells → (zs rest : List Firing) → f u ≡ zs ++ rest → ((x : Firing) → IsIn x rest → IsIn x (f u)) → Each Stays zs → Each Stays (f u)
+  lanes_from : (u : Unit) (cells : List ℕ) → kind_of g u.actor ≡ Lanes cells → (zs rest : List Firing) → f u ≡ zs ++ rest → ((x : Firing) → IsIn x rest → IsIn x (f u)) → Each Stays zs → Each Stays (f u)
   lanes_from u cells lanes zs [] e sub h = subst (Each Stays) (sym (e ∙ append-nil zs)) h
   lanes_from u cells lanes zs (x ∷ rest) e sub h =
       let r = reacts u x (sub x (inl refl)) in
@@ -121,12 +121,12 @@ module _ (g : Graph) (given : Values) (f : Firings) (behaves : Behaves g given E
       ∙ r.before ∙ ap₂ (λ k l. state_before (first_state k) l x.tag) lanes e ∙ state_up_to zs x rest h in
       lanes_from u cells lanes (zs ++ x ∷ []) rest (e ∙ sym (append_assoc zs (x ∷ []) rest)) (λ y m. sub y (inr m)) (each_push Stays zs x h stays)
 
-  lanes_state : (u : Part) (cells : List ℕ) → kind_of g u.actor ≡ Lanes cells → (x : Firing) → IsIn x (f u) → x.before ≡ pos 0
+  lanes_state : (u : Unit) (cells : List ℕ) → kind_of g u.actor ≡ Lanes cells → (x : Firing) → IsIn x (f u) → x.before ≡ pos 0
   lanes_state u cells lanes x mem =
       (reacts u x mem).before ∙ ap (λ k. state_before (first_state k) (f u) x.tag) lanes
       ∙ state_stays (f u) x.tag (lanes_from u cells lanes [] (f u) refl (λ y m. m) tt)
 
-  module _ (tasks : List Task) (claimed : (u : Part) → filter_map (of_unit g u) tasks ≡ f u) where
+  module _ (tasks : List Task) (claimed : (u : Unit) → filter_map (of_unit g u) tasks ≡ f u) where
     -- the firing of a task is one of its unit
     pub fires : (t : Task) → IsIn t tasks → IsIn (firing_by g t) (f (unit_of g t))
     fires t mem =
@@ -134,7 +134,7 @@ module _ (g : Graph) (given : Values) (f : Firings) (behaves : Behaves g given E
         (in_values (of_unit g (unit_of g t)) tasks t (firing_by g t) mem (when-true (same_part (unit_of g t) (unit_of g t)) (Some (firing_by g t)) (same_part-refl (unit_of g t))))
 
     -- and each firing is a task's
-    pub fired_by : (u : Part) (x : Firing) → IsIn x (f u) → (t : Task) × IsIn t tasks × (unit_of g t ≡ u) × (firing_by g t ≡ x)
+    pub fired_by : (u : Unit) (x : Firing) → IsIn x (f u) → (t : Task) × IsIn t tasks × (unit_of g t ≡ u) × (firing_by g t ≡ x)
     fired_by u x mem =
         let (t, at, is) = value_from (of_unit g u) tasks x (subst (IsIn x) (sym (claimed u)) mem) in
         let found = when_found (same_part (unit_of g t) u) (Some (firing_by g t)) x is in

@@ -10,7 +10,7 @@ use Rattle.pt_types.specs.declared.firing.ActorFiring.{ActorFiring}
 use Rattle.pt_types.specs.declared.firing.Task.{Task}
 use Rattle.pt_types.specs.declared.graph.Actor.{Actor}
 use Rattle.pt_types.specs.declared.graph.Graph.{Graph}
-use Rattle.pt_types.specs.declared.graph.Unit.{Unit as Part}
+use Rattle.pt_types.specs.declared.graph.Unit.{Unit}
 use Rattle.pt_types.specs.declared.kind.Kind.{Kind}
 use Rattle.pt_types.specs.declared.kind.Kind.TheVariants.{Actuator}
 use Rattle.pt_semantics.specs.Behaviours.{Firing}
@@ -40,7 +40,7 @@ pub record HasInputs (x : ActorFiring) : Type 0 where
   pub present : any_present x.inputs ≡ true
 
 -- the unit of an actor that has one
-abbrev pub lone : ℕ → Part
+abbrev pub lone : ℕ → Unit
 lone a = record { actor = a; group = 0 }
 
 lines_cons : (name : List ℕ) (o : Option Firing) (xs : List Firing) → lines_by name (cons_option o xs) ≡ lines_by name (cons_option o []) ++ lines_by name xs
@@ -106,7 +106,7 @@ have_inputs g rank w (x ∷ xs) h = (
 )
 
 -- where the claims are the parts of firings, the tables are theirs
-module _ (g : Graph) (tasks : List Task) (xs : List ActorFiring) (inputs : Each HasInputs xs) (same : (u : Part) → filter_map (of_unit g u) tasks ≡ parts g xs u) where
+module _ (g : Graph) (tasks : List Task) (xs : List ActorFiring) (inputs : Each HasInputs xs) (same : (u : Unit) → filter_map (of_unit g u) tasks ≡ parts g xs u) where
   same_table : (a : ℕ) (name : List ℕ) (kind : Kind) → kind_of g a ≡ kind → table_of a name kind (map by_task tasks) ≡ table_of a name kind xs
   same_table a name (Actuator slack) is =
       lines_claimed g a name slack is tasks ∙ ap (lines_by name) (same (lone a)) ∙ sym (lines_meant g a name slack is xs inputs)

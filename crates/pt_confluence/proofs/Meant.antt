@@ -9,7 +9,7 @@ use Rattle.pt_types.specs.Ports.{at_port, when}
 use Rattle.pt_types.specs.declared.firing.ActorFiring.{ActorFiring}
 use Rattle.pt_types.specs.declared.firing.Task.{Task}
 use Rattle.pt_types.specs.declared.graph.Graph.{Graph}
-use Rattle.pt_types.specs.declared.graph.Unit.{Unit as Part}
+use Rattle.pt_types.specs.declared.graph.Unit.{Unit}
 use Rattle.pt_types.specs.declared.kind.Kind.{Kind}
 use Rattle.pt_types.specs.declared.rows.Row.{Row}
 use Rattle.pt_semantics.specs.Behaviours.{Behaves, Everywhere, Firing, Firings, Rising, firing_at}
@@ -54,7 +54,7 @@ rise_same xs ys rx ry into back = firings_agree xs ys rx ry (λ t. at t (firing_
     at t None None ha hb = ha ∙ sym hb
 
 -- the parts of firings in order rise
-parts_after : (g : Graph) (rank : ℕ → ℕ) (u : Part) (x : ActorFiring) (ys : List ActorFiring) → x.actor ≡ u.actor → Each (λ (y : ActorFiring). Sooner rank x.tag x.actor y.tag y.actor) ys → Each (λ (z : Firing). Before x.tag z.tag) (parts g ys u)
+parts_after : (g : Graph) (rank : ℕ → ℕ) (u : Unit) (x : ActorFiring) (ys : List ActorFiring) → x.actor ≡ u.actor → Each (λ (y : ActorFiring). Sooner rank x.tag x.actor y.tag y.actor) ys → Each (λ (z : Firing). Before x.tag z.tag) (parts g ys u)
 parts_after g rank u x ys mine later =
     Each-from (λ (z : Firing). Before x.tag z.tag) (parts g ys u)
     (λ z mem.
@@ -63,7 +63,7 @@ parts_after g rank u x ys mine later =
     subst (λ (k : Firing). Before x.tag k.tag) (sym is)
     (sooner_same x.tag y.tag x.actor (rank x.actor) (subst (λ a. Sooner rank x.tag x.actor y.tag a) (has.actor ∙ sym mine) sooner)))
 
-parts_rise : (g : Graph) (rank : ℕ → ℕ) (u : Part) (xs : List ActorFiring) → InKeyOrder rank xs → Rising (parts g xs u)
+parts_rise : (g : Graph) (rank : ℕ → ℕ) (u : Unit) (xs : List ActorFiring) → InKeyOrder rank xs → Rising (parts g xs u)
 parts_rise g rank u [] h = tt
 parts_rise g rank u (x ∷ xs) h =
     ⊎_elim
@@ -110,7 +110,7 @@ strict_one rank (z ∷ xs) h x y mx my one =
 abbrev made_by : Kind → Tag → List (Option ℤ) → ℤ → Firing
 made_by k t inputs q = record { tag = t; inputs = inputs; before = q; after = (fired k q inputs).state; outputs = (fired k q inputs).outputs }
 
-module _ (g : Graph) (rank : ℕ → ℕ) (rows : ℕ → List Row) (f : Firings) (behaves : Behaves g (opening g rows) Everywhere f) (tasks : List Task) (claimed : (u : Part) → filter_map (of_unit g u) tasks ≡ f u)
+module _ (g : Graph) (rank : ℕ → ℕ) (rows : ℕ → List Row) (f : Firings) (behaves : Behaves g (opening g rows) Everywhere f) (tasks : List Task) (claimed : (u : Unit) → filter_map (of_unit g u) tasks ≡ f u)
     (sorted : List Task) (order : TasksInOrder rank sorted) (of_them : (t : Task) → IsIn t sorted → IsIn t tasks) (all_of_them : (t : Task) → IsIn t tasks → IsIn t sorted) where
   abbrev firings : List ActorFiring
   firings = map (whole_firing g) (neighbours_joined sorted)
@@ -177,7 +177,7 @@ module _ (g : Graph) (rank : ℕ → ℕ) (rows : ℕ → List Row) (f : Firings
       subst (λ x. IsIn x (parts g firings (unit_of g t))) is (part_in g (unit_of g t) firings (whole_firing g y) (map_in (whole_firing g) (neighbours_joined sorted) y my) has)
 
   -- and each part a task's firing
-  task_of_part : (u : Part) (x : Firing) → IsIn x (parts g firings u) → (t : Task) × IsIn t sorted × (unit_of g t ≡ u) × (firing_by g t ≡ x)
+  task_of_part : (u : Unit) (x : Firing) → IsIn x (parts g firings u) → (t : Task) × IsIn t sorted × (unit_of g t ≡ u) × (firing_by g t ≡ x)
   task_of_part u x mem =
       let (z, mz, has, is) = in_parts g u firings x mem in
       let (y, my, e) = in_map (whole_firing g) (neighbours_joined sorted) z mz in
@@ -192,11 +192,11 @@ module _ (g : Graph) (rank : ℕ → ℕ) (rows : ℕ → List Row) (f : Firings
         t,
         mt,
         unit,
-        sym (part_is t y mt my one).1 ∙ ap (λ (w : Part). the_part (kind_of g w.actor) (whole_firing g y) (narrow g w (whole_firing g y))) unit
+        sym (part_is t y mt my one).1 ∙ ap (λ (w : Unit). the_part (kind_of g w.actor) (whole_firing g y) (narrow g w (whole_firing g y))) unit
             ∙ ap (λ (k : ActorFiring). the_part (kind_of g u.actor) k (narrow g u k)) (sym e) ∙ sym is,
       )
 
-  parts_are : (u : Part) → parts g firings u ≡ f u
+  parts_are : (u : Unit) → parts g firings u ≡ f u
   parts_are u =
       rise_same (parts g firings u) (f u) (parts_rise g rank u firings (in_key_order rank g sorted order)) (behaves.rising u)
       (λ x mem.

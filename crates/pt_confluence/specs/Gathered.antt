@@ -2,7 +2,7 @@
 use Rattle.std.specs.Prelude.{◌≡◌, [], ℕ, List, Some, flat_map, slice_get}
 use Rattle.pt_types.specs.declared.firing.ActorFiring.{ActorFiring}
 use Rattle.pt_types.specs.declared.firing.Task.{Task}
-use Rattle.pt_types.specs.declared.graph.Unit.{Unit as Part}
+use Rattle.pt_types.specs.declared.graph.Unit.{Unit}
 use Rattle.pt_types.specs.declared.rows.Row.{Row}
 use Rattle.pt_semantics.specs.History.{IsLegal}
 use Rattle.pt_semantics.specs.Linked.{AreLinked, IsFinished, all_claims}
@@ -26,7 +26,7 @@ pub record HaveFinished (plan : Parts) (rows : ℕ → List Row) (platforms : Li
 -- the firings and the claims agree: each unit's claims are, in order, its parts of the firings, with the same tags, inputs,
 -- states and outputs; each claim is a part of one of its actor's firings, and each input of a firing is claimed
 pub record AgreeOnClaims (plan : Parts) (platforms : List PlatformView) (firings : List ActorFiring) : Type 0 where
-  pub units : (u : Part) → all_claims plan.graph (histories_of platforms) u ≡ parts plan.graph firings u
+  pub units : (u : Unit) → all_claims plan.graph (histories_of platforms) u ≡ parts plan.graph firings u
   pub actors : AreTheFirings plan.graph (all_claims plan.graph (histories_of platforms)) firings
 
 -- the text is the tables of the meaning

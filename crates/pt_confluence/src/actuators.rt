@@ -16,7 +16,8 @@ use pt_turn::Platform;
 use pt_types::{Actor, Ports};
 use std::alloc::{AllocError, Global};
 
-/// The tables of a plan's actuators as text, from the claims of its finished platforms. They are those of the meaning.
+/// The tables of a plan's actuators as text, from the claims of its finished platforms. They are those of the meaning: a claim of
+/// actuator `out` at 150.0 with input 14 is the line `out,150,0,14`.
 ///
 /// An actuator's claims are all on its platform, in the order of their tags, so nothing is sorted: each becomes a line of
 /// its table as the recorded turns are read.

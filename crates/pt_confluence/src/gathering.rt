@@ -24,7 +24,8 @@ use std::alloc::Global;
 /// The meaning of a plan's graph and the rows of the run, from the claims of its finished platforms.
 ///
 /// References to the tasks are sorted in the order of the meaning, and tasks of one actor and tag, which are those of the
-/// units of lanes, are joined into one firing.
+/// units of lanes, are joined into one firing. If platform 0 has claimed actor 0 at 50.0 and actor 1 at 80.0, and platform 1
+/// actor 2 at 70.0, the firings are those of actors 0, 2 and 1.
 pub fn gather(alloc: Global, plan: &Plan, platforms: &[Platform]) -> Result<Firings, Memory>
     ensures meaning { IfOk result (λ firings. (rows : ℕ → List Row) → HaveFinished plan.now rows platforms.now → IsMeaning plan.now.graph (rank_of plan.now.ranks) rows firings) }
     ensures claimed { IfOk result (λ firings. (rows : ℕ → List Row) → HaveFinished plan.now rows platforms.now → AgreeOnClaims plan.now platforms.now firings) }

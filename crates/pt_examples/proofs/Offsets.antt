@@ -4,7 +4,7 @@ use Rattle.std.proofs.lemmas.Int.{ints}
 use Rattle.std.proofs.lemmas.Bool.Decides.{nat_tests}
 use Rattle.pt_types.specs.Ports.{when}
 use Rattle.pt_types.specs.declared.graph.Graph.{Graph}
-use Rattle.pt_types.specs.declared.graph.Unit.{Unit as Part}
+use Rattle.pt_types.specs.declared.graph.Unit.{Unit}
 use Rattle.pt_semantics.specs.Lists.{IsIn, or_else}
 use Rattle.pt_semantics.specs.Edges.{Edge, wires}
 use Rattle.pt_semantics.specs.Units.{source, target, at_output}
@@ -16,18 +16,18 @@ use Rattle.pt_examples.specs.Programs.{lanes, linked, paired}
 use Rattle.pt_examples.specs.Readings.{unit, LanesStandApart, LinkedReadings, PairedReading}
 
 -- the table has at least z less d for this unit
-record AtLeast (lag : Part → Option ℤ) (u : Part) (z : ℤ) (d : ℕ) : Type 0 where
+record AtLeast (lag : Unit → Option ℤ) (u : Unit) (z : ℤ) (d : ℕ) : Type 0 where
   pub value : ℤ
   pub is : lag u ≡ Some value
   pub enough : (z -ℤ pos d) ≤ℤ value
 
-abbrev FromSources : Graph → (Part → Option ℤ) → Type 0
+abbrev FromSources : Graph → (Unit → Option ℤ) → Type 0
 FromSources g lag = (a b : ℕ) → bound_of g a ≡ Some b → AtLeast lag (at_output g a 0) (pos b) 0
 
-abbrev AlongWires : Graph → (Part → Option ℤ) → Type 0
+abbrev AlongWires : Graph → (Unit → Option ℤ) → Type 0
 AlongWires g lag = (e : Edge) → IsIn e (wires g) → (z : ℤ) → lag (source g e) ≡ Some z → AtLeast lag (target g e) z e.weight.time
 
-along : (g : Graph) (lag : Part → Option ℤ) → AlongWires g lag → (path : List Edge) (x u : Part) (z : ℤ) → Goes g x path u → lag x ≡ Some z → AtLeast lag u z (sum_along path).time
+along : (g : Graph) (lag : Unit → Option ℤ) → AlongWires g lag → (path : List Edge) (x u : Unit) (z : ℤ) → Goes g x path u → lag x ≡ Some z → AtLeast lag u z (sum_along path).time
 along g lag wires_fit [] x u z go is = record { value = z; is = subst (λ w. lag w ≡ Some z) go is; enough = self z }
   where
     self : (z : ℤ) → (z -ℤ pos 0) ≤ℤ z
@@ -43,7 +43,7 @@ along g lag wires_fit (e ∷ path) x u z (mem, src, rest) is =
 some_same : (x y : ℤ) → Some x ≡ Some y → x ≡ y
 some_same x y h = cc
 
-greatest : (g : Graph) (lag : Part → Option ℤ) (u : Part) (o : ℤ) → FromSources g lag → AlongWires g lag → lag u ≡ Some o → (s b : ℕ) (path : List Edge) → Feeds g s b path u → (pos b -ℤ pos (sum_along path).time) ≤ℤ o
+greatest : (g : Graph) (lag : Unit → Option ℤ) (u : Unit) (o : ℤ) → FromSources g lag → AlongWires g lag → lag u ≡ Some o → (s b : ℕ) (path : List Edge) → Feeds g s b path u → (pos b -ℤ pos (sum_along path).time) ≤ℤ o
 greatest g lag u o sources_fit wires_fit is s b path feeds =
     let first = sources_fit s b feeds.bound in
     let on = along g lag wires_fit path (at_output g s 0) u first.value feeds.goes first.is in
@@ -62,7 +62,7 @@ here : (b c : ℕ) → b ≡ c → (pos c -ℤ pos 0) ≤ℤ pos b
 here b c e = omega (arith, ints)
 
 -- along one wire
-fits_at : (g : Graph) (lag : Part → Option ℤ) (w : Edge) (v out : ℤ) → lag (source g w) ≡ Some v → lag (target g w) ≡ Some out → (v -ℤ pos w.weight.time) ≡ out → (e : Edge) → e ≡ w → (z : ℤ) → lag (source g e) ≡ Some z → AtLeast lag (target g e) z e.weight.time
+fits_at : (g : Graph) (lag : Unit → Option ℤ) (w : Edge) (v out : ℤ) → lag (source g w) ≡ Some v → lag (target g w) ≡ Some out → (v -ℤ pos w.weight.time) ≡ out → (e : Edge) → e ≡ w → (z : ℤ) → lag (source g e) ≡ Some z → AtLeast lag (target g e) z e.weight.time
 fits_at g lag w v out from to less e same z is =
     subst (λ (x : Edge). AtLeast lag (target g x) z x.weight.time) (sym same)
     (record { value = out; is = to; enough = enough z v out w.weight.time (some_same z v (sym is ∙ ap (λ (x : Edge). lag (source g x)) same ∙ from)) less })
@@ -79,7 +79,7 @@ lanes_lag (suc (suc (suc zero))) k = Some (pos 10)
 lanes_lag (suc (suc (suc (suc zero)))) k = Some (pos 200)
 lanes_lag (suc (suc (suc (suc (suc a))))) k = None
 
-abbrev lag_lanes : Part → Option ℤ
+abbrev lag_lanes : Unit → Option ℤ
 lag_lanes u = lanes_lag u.actor u.group
 
 lanes_sources : FromSources lanes lag_lanes
@@ -125,7 +125,7 @@ linked_lag (suc (suc (suc (suc zero)))) = Some (pos 45)
 linked_lag (suc (suc (suc (suc (suc zero))))) = Some (negsuc 14)
 linked_lag (suc (suc (suc (suc (suc (suc a)))))) = None
 
-abbrev lag_linked : Part → Option ℤ
+abbrev lag_linked : Unit → Option ℤ
 lag_linked u = linked_lag u.actor
 
 not_there : (a : ℕ) → (3 == suc (suc (suc (suc (suc (suc a)))))) ≡ false
@@ -185,7 +185,7 @@ paired_lag (suc (suc (suc (suc zero)))) = Some (pos 65)
 paired_lag (suc (suc (suc (suc (suc zero))))) = Some (pos 5)
 paired_lag (suc (suc (suc (suc (suc (suc a)))))) = None
 
-abbrev lag_paired : Part → Option ℤ
+abbrev lag_paired : Unit → Option ℤ
 lag_paired u = paired_lag u.actor
 
 paired_sources : FromSources paired lag_paired

@@ -4,7 +4,7 @@ use Rattle.std.proofs.lemmas.Bool.{and_parts, cases_Bool, cond-true, cond-false,
 use Rattle.std.proofs.lemmas.Int.{ints}
 use Rattle.pt_types.specs.declared.graph.Link.{Link}
 use Rattle.pt_tags.specs.declared.tag.Tag.{Tag}
-use Rattle.pt_types.specs.declared.graph.Unit.{Unit as Part}
+use Rattle.pt_types.specs.declared.graph.Unit.{Unit}
 use Rattle.pt_types.specs.declared.kind.Kind.TheVariants.{Sensor, Send, Receive}
 use Rattle.pt_tags.specs.Tags.{UpTo, same_tag}
 use Rattle.pt_types.specs.Ports.{when}
@@ -31,7 +31,6 @@ use Rattle.pt_semantics.proofs.Claiming.{event_found}
 use Rattle.pt_semantics.proofs.Least.{paced_meets}
 use Rattle.pt_examples.specs.Smallest.{one, row, rows, level}
 use Rattle.pt_examples.specs.SmallestPaced.{IsPacedOne}
-use Rattle.pt_types.specs.Limits.{most_claims}
 
 abbrev s0 : State
 s0 = opened one 0 rows
@@ -42,7 +41,7 @@ s1 = raised (after_rows s0 55) 55
 abbrev at_50 : Tag
 at_50 = record { time = 50; step = 0 }
 
-abbrev u0 : Part
+abbrev u0 : Unit
 u0 = record { actor = 0; group = 0 }
 
 abbrev t1 : Turn
@@ -70,7 +69,7 @@ waits1 a p t v h =
     (λ (r : when (p == 0) (row_at (due 55 (s0.left a)) t) ≡ Some v). rows_at a t v (when_found (p == 0) _ v r).1)
     (or_else_found (s0.waits a p t) _ v h)
 
-event1 : (u : Part) (t : Tag) → HasEvent one s1.waits u t → (u0 ≡ u) × (at_50 ≡ t)
+event1 : (u : Unit) (t : Tag) → HasEvent one s1.waits u t → (u0 ≡ u) × (at_50 ≡ t)
 event1 u t h =
     let e = event_found one s1.waits u t h in
     let w = waits1 u.actor e.port t e.value e.waits_there in
@@ -79,7 +78,7 @@ event1 u t h =
     unit_is : (a p : ℕ) → a ≡ 0 → u0 ≡ at_input one a p
     unit_is a p e = ap (λ b. at_input one b p) (sym e)
 
-no_wires : (x a : Part) (path : List Edge) → Goes one x path a → (x ≡ a) × ((sum_along path).time ≡ 0)
+no_wires : (x a : Unit) (path : List Edge) → Goes one x path a → (x ≡ a) × ((sum_along path).time ≡ 0)
 no_wires x a [] h = (h, refl)
 no_wires x a (e ∷ path) h = absurd h.0
 
@@ -144,7 +143,7 @@ waits2 a p t v h =
     rows_gone zero t v h = none_some v h
     rows_gone (suc a) t v h = none_some v h
 
-event2 : (u : Part) (t : Tag) → HasEvent one s2.waits u t → (u0 ≡ u) × (at_50 ≡ t)
+event2 : (u : Unit) (t : Tag) → HasEvent one s2.waits u t → (u0 ≡ u) × (at_50 ≡ t)
 event2 u t h =
     let e = event_found one s2.waits u t h in
     let w = waits2 u.actor e.port t e.value e.waits_there in
@@ -214,8 +213,8 @@ m2 = record { platform = 0; turn = t2; late = false; fault = false }
 no_link : (x : Link) → None ≡ Some x → ⊥
 no_link x e = cc
 
-few : (s ready : State) (r : ℕ) → s.claims < most_claims → IsLast one s r false ready → false ≡ true
-few s ready r lt h = ⊎_elim (λ (e : false ≡ true). e) (λ (l : (most_claims ≤ s.claims) × (NothingSafe one ready.waits ready.busy r → ⊥)). let le = l.0 in absurd (omega arith)) h
+few : (s ready : State) (r : ℕ) → s.claims < one.claims → IsLast one s r false ready → false ≡ true
+few s ready r lt h = ⊎_elim (λ (e : false ≡ true). e) (λ (l : (one.claims ≤ s.claims) × (NothingSafe one ready.waits ready.busy r → ⊥)). let le = l.0 in absurd (omega arith)) h
 
 makes1 : Makes one level 55 x0 m1 x1
 unfolding turn1
@@ -287,7 +286,7 @@ only_one : (i : ℕ) → i < 1 → i ≡ 0
 only_one i l = omega arith
 
 -- the offset of the sensor, and of units that nothing reaches
-abbrev offset : Part → Option ℤ
+abbrev offset : Unit → Option ℤ
 offset u = if u.actor == 0 && u.group == 0 then Some (pos 10) else None
 
 offset0 : IsOffset one u0 (pos 10)
@@ -302,14 +301,14 @@ offset0 = record {
     step : (b n : ℕ) → b ≡ 10 → n ≡ 0 → (pos b -ℤ pos n) ≤ℤ pos 10
     step b n e z = omega (arith, ints)
 
-not_zero : (u : Part) → (u.actor == 0 && u.group == 0) ≡ true → u0 ≡ u
+not_zero : (u : Unit) → (u.actor == 0 && u.group == 0) ≡ true → u0 ≡ u
 not_zero u h =
     let two = and_parts (u.actor == 0) (u.group == 0) h in
     let a : 0 ≡ u.actor = sym (eqb-true u.actor 0 two.0) in
     let b : 0 ≡ u.group = sym (eqb-true u.group 0 two.1) in
     λ i. record { actor = a i; group = b i }
 
-offsets : (u : Part) → HasOffset one u (offset u)
+offsets : (u : Unit) → HasOffset one u (offset u)
 offsets u =
     ⊎_elim
     (λ (h : (u.actor == 0 && u.group == 0) ≡ true).
@@ -320,7 +319,7 @@ offsets u =
     let go = (no_wires (at_output one a 0) u path f.goes).0 in
     let zero_a = (only_bound a b f.bound).0 in
     let is : u0 ≡ u = ap (λ n. at_output one n 0) (sym zero_a) ∙ go in
-    false≢true (sym h ∙ subst (λ (z : Part). (z.actor == 0 && z.group == 0) ≡ true) is refl)))
+    false≢true (sym h ∙ subst (λ (z : Unit). (z.actor == 0 && z.group == 0) ≡ true) is refl)))
     (cases_Bool (u.actor == 0 && u.group == 0))
 
 -- the first reading
@@ -340,16 +339,16 @@ least0 = record {
         never : (r : Row) (rest : List Row) → [] ≡ r ∷ rest → ⊥
         never r rest e = cc
 
-    none_waits : (u : Part) (t : Tag) → HasEvent one s0.waits u t → ⊥
+    none_waits : (u : Unit) (t : Tag) → HasEvent one s0.waits u t → ⊥
     none_waits u t h = let e = event_found one s0.waits u t h in no_start u.actor t e.value _ e.waits_there
 
     from : (i d : ℕ) → i ≡ 0 → IsCandidate one i (x0.at i) d → 55 ≤ d
     from i d e cand =
         ⊎_elim
         (λ (r : (a : ℕ) × (w : Row) × (rest : List Row) × (s0.left a ≡ w ∷ rest) × (d ≡ w.seen)). subst (λ n. 55 ≤ n) (sym r.4) (row_seen r.0 r.1 r.2 r.3))
-        (λ (o : ((u : Part) × (t : Tag) × HasEvent one s0.waits u t × ((w : Tag) → HasEvent one s0.waits u w → UpTo t w) × (s0.busy u ≡ None) × IsPaced one u t d) ⊎ IsClosing one 0 d).
+        (λ (o : ((u : Unit) × (t : Tag) × HasEvent one s0.waits u t × ((w : Tag) → HasEvent one s0.waits u w → UpTo t w) × (s0.busy u ≡ None) × IsPaced one u t d) ⊎ IsClosing one 0 d).
         ⊎_elim
-        (λ (ev : (u : Part) × (t : Tag) × HasEvent one s0.waits u t × ((w : Tag) → HasEvent one s0.waits u w → UpTo t w) × (s0.busy u ≡ None) × IsPaced one u t d). absurd (none_waits ev.0 ev.1 ev.2))
+        (λ (ev : (u : Unit) × (t : Tag) × HasEvent one s0.waits u t × ((w : Tag) → HasEvent one s0.waits u w → UpTo t w) × (s0.busy u ≡ None) × IsPaced one u t d). absurd (none_waits ev.0 ev.1 ev.2))
         (λ (c : IsClosing one 0 d). let l : 111 ≤ d = closes_at d c in omega arith)
         o)
         (subst (λ n. IsCandidate one n (x0.at n) d) e cand)
@@ -361,7 +360,7 @@ least2 = record {
   least = λ i d lt open_still cand. from i d (only_one i lt) cand;
 }
   where
-    of_paced : (u : Part) (t : Tag) (d : ℕ) → u0 ≡ u → at_50 ≡ t → IsPaced one u t d → 61 ≤ d
+    of_paced : (u : Unit) (t : Tag) (d : ℕ) → u0 ≡ u → at_50 ≡ t → IsPaced one u t d → 61 ≤ d
     of_paced u t d eu et p =
         let on : 50 + 10 + 1 ≤ d = paced_is d (subst (λ z. IsPaced one u0 z d) (sym et) (subst (λ z. IsPaced one z t d) (sym eu) p)) in
         omega arith
@@ -373,9 +372,9 @@ least2 = record {
     from i d e cand =
         ⊎_elim
         (λ (r : (a : ℕ) × (w : Row) × (rest : List Row) × (s2.left a ≡ w ∷ rest) × (d ≡ w.seen)). absurd (never r.1 r.2 (sym (left2 r.0) ∙ r.3)))
-        (λ (o : ((u : Part) × (t : Tag) × HasEvent one s2.waits u t × ((w : Tag) → HasEvent one s2.waits u w → UpTo t w) × (s2.busy u ≡ None) × IsPaced one u t d) ⊎ IsClosing one 0 d).
+        (λ (o : ((u : Unit) × (t : Tag) × HasEvent one s2.waits u t × ((w : Tag) → HasEvent one s2.waits u w → UpTo t w) × (s2.busy u ≡ None) × IsPaced one u t d) ⊎ IsClosing one 0 d).
         ⊎_elim
-        (λ (ev : (u : Part) × (t : Tag) × HasEvent one s2.waits u t × ((w : Tag) → HasEvent one s2.waits u w → UpTo t w) × (s2.busy u ≡ None) × IsPaced one u t d).
+        (λ (ev : (u : Unit) × (t : Tag) × HasEvent one s2.waits u t × ((w : Tag) → HasEvent one s2.waits u w → UpTo t w) × (s2.busy u ≡ None) × IsPaced one u t d).
         let w = event2 ev.0 ev.1 ev.2 in of_paced ev.0 ev.1 d w.0 w.1 ev.5)
         (λ (c : IsClosing one 0 d). let l : 111 ≤ d = closes_at d c in omega arith)
         o)

@@ -4,7 +4,7 @@ use Rattle.std.proofs.lemmas.Bool.{and_from, false≢true}
 use Rattle.pt_tags.specs.declared.tag.Tag.{Tag}
 use Rattle.pt_types.specs.declared.graph.Graph.{Graph}
 use Rattle.pt_types.specs.declared.graph.Link.{Link}
-use Rattle.pt_types.specs.declared.graph.Unit.{Unit as Part}
+use Rattle.pt_types.specs.declared.graph.Unit.{Unit}
 use Rattle.pt_tags.specs.Tags.{UpTo, same_tag}
 use Rattle.pt_types.specs.Ports.{when}
 use Rattle.pt_semantics.specs.Lists.{Each}
@@ -34,7 +34,6 @@ use Rattle.pt_semantics.proofs.Lookups.{none_some, same_some, or_else_found, whe
 use Rattle.pt_semantics.proofs.Claiming.{event_found, without_found}
 use Rattle.pt_semantics.proofs.Floor.{put_same, put_other}
 use Rattle.pt_examples.specs.Smallest.{one, row, rows, input_three, task, done, level, turns, firing}
-use Rattle.pt_types.specs.Limits.{most_claims}
 
 abbrev at_50 : Tag
 at_50 = record { time = 50; step = 0 }
@@ -45,7 +44,7 @@ s0 = opened one 0 rows
 abbrev pub s1 : State
 s1 = raised (after_rows s0 61) 61
 
-abbrev pub u0 : Part
+abbrev pub u0 : Unit
 u0 = record { actor = 0; group = 0 }
 
 abbrev pub s2 : State
@@ -78,7 +77,7 @@ waits1 a p t v h =
     (or_else_found (s0.waits a p t) _ v h)
 
 -- a unit with an event is the sensor's, at 50
-event1 : (u : Part) (t : Tag) → HasEvent one s1.waits u t → (u0 ≡ u) × (at_50 ≡ t)
+event1 : (u : Unit) (t : Tag) → HasEvent one s1.waits u t → (u0 ≡ u) × (at_50 ≡ t)
 event1 u t h =
     let e = event_found one s1.waits u t h in
     let w = waits1 u.actor e.port t e.value e.waits_there in
@@ -87,7 +86,7 @@ event1 u t h =
     unit_is : (a p : ℕ) → a ≡ 0 → u0 ≡ at_input one a p
     unit_is a p e = ap (λ b. at_input one b p) (sym e)
 
-no_wires : (x a : Part) (path : List Edge) → Goes one x path a → (x ≡ a) × ((sum_along path).time ≡ 0)
+no_wires : (x a : Unit) (path : List Edge) → Goes one x path a → (x ≡ a) × ((sum_along path).time ≡ 0)
 no_wires x a [] h = (h, refl)
 no_wires x a (e ∷ path) h = absurd h.0
 
@@ -263,7 +262,7 @@ turn3 = record {
   sends = (keep s5, refl, λ l. refl, λ l. omega arith);
 }
 
-is_last : (g : Graph) (s ready : State) (r : ℕ) → s.claims < most_claims → IsLast g s r false ready → ⊥
+is_last : (g : Graph) (s ready : State) (r : ℕ) → s.claims < g.claims → IsLast g s r false ready → ⊥
 is_last g s ready r few h = ⊎_elim (λ e. absurd (false≢true e)) (λ l. let le = l.0 in omega arith) h
 
 pub legal : IsLegal one level 0 rows turns s5

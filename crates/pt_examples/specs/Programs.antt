@@ -8,6 +8,7 @@ use Rattle.pt_types.specs.declared.kind.Kind.TheVariants.{Sensor, Receive, Send,
 use Rattle.pt_types.specs.declared.kind.Law.TheVariants.{Deadband}
 use Rattle.pt_types.specs.declared.rows.Row.{Row}
 use Rattle.pt_semantics.specs.Tables.{head, line}
+use Rattle.pt_types.specs.Limits.{usual_claims}
 
 abbrev pub actor_named : List ℕ → ℕ → Kind → ℕ → ℕ → Actor
 actor_named name platform kind inputs outputs = record { name = name; platform = platform; kind = kind; inputs = inputs; outputs = outputs }
@@ -26,6 +27,7 @@ abbrev pub on_one : List Actor → List Wire → Graph
 on_one actors wires = record {
   until = 1000;
   clock_error = 0;
+  claims = usual_claims;
   platforms = codes "p" ∷ [];
   actors = actors;
   wires = wires;
@@ -97,6 +99,7 @@ abbrev pub linked : Graph
 linked = record {
   until = 1000;
   clock_error = 5;
+  claims = usual_claims;
   platforms = codes "p" ∷ codes "q" ∷ [];
   actors =
       sensor (codes "s") 10 ∷ actor_named (codes "d") 0 (Kind.Delay 30) 1 1 ∷ actor_named (codes "w") 0 (Send 0) 1 0

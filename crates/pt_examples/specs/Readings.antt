@@ -1,11 +1,11 @@
 -- Paced readings of units of three programs, worked by hand.
 use Rattle.std.specs.Prelude.{ℕ}
 use Rattle.pt_tags.specs.declared.tag.Tag.{Tag}
-use Rattle.pt_types.specs.declared.graph.Unit.{Unit as Part}
+use Rattle.pt_types.specs.declared.graph.Unit.{Unit}
 use Rattle.pt_semantics.specs.Paced.{IsPaced}
 use Rattle.pt_examples.specs.Programs.{lanes, linked, paired}
 
-abbrev pub unit : ℕ → ℕ → Part
+abbrev pub unit : ℕ → ℕ → Unit
 unit actor group = record { actor = actor; group = group }
 
 abbrev pub tag : ℕ → ℕ → Tag

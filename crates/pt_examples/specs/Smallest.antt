@@ -13,11 +13,13 @@ use Rattle.pt_semantics.specs.Turn.{Turn}
 use Rattle.pt_semantics.specs.Platform.{State}
 use Rattle.pt_semantics.specs.History.{IsLegal}
 use Rattle.pt_semantics.specs.Linked.{IsFinished}
+use Rattle.pt_types.specs.Limits.{usual_claims}
 
 abbrev pub one : Graph
 one = record {
   until = 100;
   clock_error = 0;
+  claims = usual_claims;
   platforms = codes "p" ∷ [];
   actors = record { name = codes "s"; platform = 0; kind = Sensor (codes "s.csv") 10; inputs = 0; outputs = 1 } ∷ [];
   wires = [];

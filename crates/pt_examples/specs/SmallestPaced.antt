@@ -1,7 +1,7 @@
 -- The beginning of the smallest paced run: the row enters at 55, a quiet
 -- round follows, and the next reading is 61, the sensor's paced reading.
 use Rattle.std.specs.Prelude.{[], ◌∷◌, ℤ, Option}
-use Rattle.pt_types.specs.declared.graph.Unit.{Unit as Part}
+use Rattle.pt_types.specs.declared.graph.Unit.{Unit}
 use Rattle.pt_semantics.specs.Offsets.{IsFeasible, HasOffset}
 use Rattle.pt_semantics.specs.Visits.{Together, Made}
 use Rattle.pt_semantics.specs.Rounds.{IsPacedRun}
@@ -14,5 +14,5 @@ pub record IsPacedOne : Type 0 where
   pub state : Together
   pub run : IsPacedRun one level rows ((first ∷ []) ∷ (second ∷ []) ∷ []) 61 state
   pub feasible : IsFeasible one
-  pub offset : Part → Option ℤ
-  pub offsets : (u : Part) → HasOffset one u (offset u)
+  pub offset : Unit → Option ℤ
+  pub offsets : (u : Unit) → HasOffset one u (offset u)

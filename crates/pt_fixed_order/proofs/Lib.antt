@@ -1,5 +1,5 @@
-pub mod Going
-pub mod Linking
-pub mod Sound
-pub mod Whole
-pub mod Fronts
+pub mod Counting
+pub mod Growing
+pub mod OneVisit
+pub mod Starting
+pub mod Steps

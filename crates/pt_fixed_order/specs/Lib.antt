@@ -1,5 +1,4 @@
-pub mod Going
-pub mod Linking
-pub mod Whole
-pub mod Fronts
-pub mod Sound
+pub mod Asked
+pub mod Between
+pub mod Growing
+pub mod Outcome

@@ -1,12 +1,13 @@
-//! Theorems on visits in fixed order: all platforms in the order of the graph, again and again, each at the next reading of
-//! its own clock.
+//! The engine in fixed order: it visits all platforms in the order of the graph, again and again, each at the next reading of
+//! its own clock, until all are finished or one has a fault.
 //!
-//! Read first: `specs/Going.antt`.
+//! Read first: `alone`, then `specs/Outcome.antt`.
 #![tactic(auto)]
 
-mod laws;
+mod asking;
+mod engine;
+mod going_on;
+pub mod live;
+mod visiting;
 
-pub use laws::{
-    fixed_order_is_legal, fronts_are_by_link, linked_if_finished, links_are_free, links_stay_free,
-    matched_is_linked, visits_end, visits_go_on,
-};
+pub use engine::alone;

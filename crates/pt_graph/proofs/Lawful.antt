@@ -65,6 +65,7 @@ graph_lawful blocks d laws checks ends =
     record {
       until = time_of d.head.until head.0;
       clock_error = time_of d.head.clock_error head.1;
+      few_claims = omega arith;
       some_platform = head.2;
       few_platforms = few_platforms;
       few_actors = omega arith;

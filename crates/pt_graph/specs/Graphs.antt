@@ -6,7 +6,7 @@ use Rattle.pt_graph_text.specs.declared.document.WireText.{WireText}
 use Rattle.pt_graph_text.specs.declared.document.PairText.{PairText}
 use Rattle.pt_graph_text.specs.declared.document.RowText.{RowText}
 use Rattle.pt_graph_text.specs.declared.document.ActorText.{ActorText}
-use Rattle.pt_graph_text.specs.declared.document.Head.{Head}
+use Rattle.pt_graph_text.specs.declared.document.TopNumbers.{TopNumbers}
 use Rattle.pt_graph_text.specs.declared.kinds.KindText.{KindText}
 use Rattle.pt_graph_text.specs.declared.kinds.KindText.TheVariants as text
 use Rattle.pt_types.specs.declared.kind.Kind.{Kind}
@@ -25,6 +25,7 @@ use Rattle.pt_types.specs.Ends.{hidden_wires}
 use Rattle.pt_blocks.specs.declared.blocks.Named.{Named}
 use Rattle.pt_blocks.specs.Blocks.{find_block, law_at}
 use Rattle.pt_graph.specs.Known.{first_named, itself, name_of_actor}
+use Rattle.pt_types.specs.Limits.{usual_claims}
 
 -- a number of the file as a natural number of 32 bits; numbers in their ranges fit
 abbrev pub small : ℤ → ℕ
@@ -94,10 +95,11 @@ abbrev pub links_of : Document → List Link
 links_of d = map (link_from (first_named name_of_actor d.actors)) d.links
 
 -- the graph with these numbers and parts
-unfoldable pub whole_graph : Head → List (List ℕ) → List Actor → List Wire → List Link → List PairError → Graph
+unfoldable pub whole_graph : TopNumbers → List (List ℕ) → List Actor → List Wire → List Link → List PairError → Graph
 whole_graph head platforms actors wires links pairs = record {
   until = unsigned_abs head.until;
   clock_error = unsigned_abs head.clock_error;
+  claims = usual_claims;
   platforms = platforms;
   actors = actors;
   wires = wires;

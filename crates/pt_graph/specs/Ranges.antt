@@ -7,7 +7,7 @@ use Rattle.pt_graph_text.specs.declared.document.WireText.{WireText}
 use Rattle.pt_graph_text.specs.declared.document.PairText.{PairText}
 use Rattle.pt_graph_text.specs.declared.document.RowText.{RowText}
 use Rattle.pt_graph_text.specs.declared.document.ActorText.{ActorText}
-use Rattle.pt_graph_text.specs.declared.document.Head.{Head}
+use Rattle.pt_graph_text.specs.declared.document.TopNumbers.{TopNumbers}
 use Rattle.pt_graph_text.specs.declared.kinds.KindText.{KindText}
 use Rattle.pt_graph_text.specs.declared.kinds.KindText.TheVariants as text
 use Rattle.pt_graph_text.specs.declared.fault.Part.TheVariants as part
@@ -50,7 +50,7 @@ wire_in_range w = is_between (pos 0) (pos 7) w.output && is_between (pos 0) (pos
 abbrev pub pair_in_range : PairText → Bool
 pair_in_range p = is_time_number p.error && not (bytes_eq p.a p.b)
 
-abbrev pub head_in_range : Head → Bool
+abbrev pub head_in_range : TopNumbers → Bool
 head_in_range h = is_between (pos 1) (pos 2) h.version && is_time_number h.until && is_time_number h.clock_error
 
 -- the top object, if one of its numbers is out of range or there is no platform

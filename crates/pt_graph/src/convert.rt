@@ -89,7 +89,7 @@ fn kind_from(alloc: Global, listed: &[Named], kind: &KindText) -> Result<Kind, A
             outputs,
             rows,
         } => machine_from(alloc, listed, *start, *outputs, rows),
-        KindText::Block { block } => Ok(block_from(listed, block)),
+        KindText::Block { block } => block_from(alloc, listed, block),
         KindText::Lanes { cells } => lanes_from(alloc, cells),
         _ => Ok(number_kind_from(kind)),
     }
@@ -127,21 +127,26 @@ fn rows_from(
 ) -> Result<Vec<MachineRow>, AllocError>
     ensures { IfOk result (λ v. v.items ≡ map (row_from listed.now) rows.now) }
 {
-    rows.iter().map(|row| row_from(listed, row)).collect(alloc)
+    let mut done = Vec::new(alloc);
+    for row in rows {
+        done.push(row_from(alloc, listed, row)?)?;
+    }
+    Ok(done)
 }
 
 #[tactic(auto, unfolding(crate::specs::Graphs::row_from))]
-fn row_from(listed: &[Named], row: &RowText) -> MachineRow
-    ensures { result ≡ row_from listed.now row.now }
+fn row_from(alloc: Global, listed: &[Named], row: &RowText) -> Result<MachineRow, AllocError>
+    ensures { IfOk result (λ made. made ≡ row_from listed.now row.now) }
 {
-    MachineRow {
+    let guard = guard_from(alloc, listed, &row.guard)?;
+    Ok(MachineRow {
         state: row.state,
         low: row.low,
         high: row.high,
         next: row.next,
         emit: emit_from(row.emit),
-        guard: guard_from(listed, &row.guard),
-    }
+        guard,
+    })
 }
 
 fn emit_from(emit: Option<(i64, i64)>) -> Option<(u32, i64)>
@@ -153,46 +158,51 @@ fn emit_from(emit: Option<(i64, i64)>) -> Option<(u32, i64)>
     }
 }
 
-fn guard_from(listed: &[Named], guard: &Option<Word>) -> Option<(u32, Law)>
-    ensures { result ≡ option_map (number_and_law listed.now) guard.now }
+fn guard_from(
+    alloc: Global,
+    listed: &[Named],
+    guard: &Option<Word>,
+) -> Result<Option<(u32, Law)>, AllocError>
+    ensures { IfOk result (λ made. made ≡ option_map (number_and_law listed.now) guard.now) }
 {
     match guard {
-        Some(name) => Some(block_of(listed, name)),
-        None => None,
+        Some(name) => Ok(Some(block_of(alloc, listed, name)?)),
+        None => Ok(None),
     }
 }
 
 /// The number and the law of the block with this name.
-fn block_of(listed: &[Named], name: &Word) -> (u32, Law)
-    ensures { result ≡ number_and_law listed.now name.now }
+fn block_of(alloc: Global, listed: &[Named], name: &Word) -> Result<(u32, Law), AllocError>
+    ensures { IfOk result (λ made. made ≡ number_and_law listed.now name.now) }
 {
     let number = find(listed, name);
-    (number_or_0(number), law_of(listed, number))
+    let law = law_of(alloc, listed, number)?;
+    Ok((number_or_0(number), law))
 }
 
-fn law_of(listed: &[Named], number: Option<usize>) -> Law
-    ensures { result ≡ unwrap_or (option_and_then (law_at listed.now) number) Least }
+fn law_of(alloc: Global, listed: &[Named], number: Option<usize>) -> Result<Law, AllocError>
+    ensures { IfOk result (λ law. law ≡ unwrap_or (option_and_then (law_at listed.now) number) Least) }
 {
     match number {
-        Some(number) => law_at(listed, number),
-        None => Law::Least,
+        Some(number) => law_at(alloc, listed, number),
+        None => Ok(Law::Least),
     }
 }
 
-fn law_at(listed: &[Named], number: usize) -> Law
-    ensures { result ≡ unwrap_or (law_at listed.now number) Least }
+fn law_at(alloc: Global, listed: &[Named], number: usize) -> Result<Law, AllocError>
+    ensures { IfOk result (λ law. law ≡ unwrap_or (law_at listed.now number) Least) }
 {
     match listed.get(number) {
-        Some(block) => block.law,
-        None => Law::Least,
+        Some(block) => block.law.copy(alloc),
+        None => Ok(Law::Least),
     }
 }
 
-fn block_from(listed: &[Named], name: &Word) -> Kind
-    ensures { result ≡ kind_from listed.now (text.Block name.now) }
+fn block_from(alloc: Global, listed: &[Named], name: &Word) -> Result<Kind, AllocError>
+    ensures { IfOk result (λ kind. kind ≡ kind_from listed.now (text.Block name.now)) }
 {
-    let (block, law) = block_of(listed, name);
-    Kind::Block { block, law }
+    let (block, law) = block_of(alloc, listed, name)?;
+    Ok(Kind::Block { block, law })
 }
 
 fn lanes_from(alloc: Global, cells: &List<i64>) -> Result<Kind, AllocError>

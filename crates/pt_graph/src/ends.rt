@@ -68,7 +68,8 @@ fn loose(actors: &[Actor], wires: &[Wire]) -> Option<usize>
     wires.iter().position(|w| !ends_fit(actors, w))
 }
 
-/// Whether both ends of a wire are visible ports; those of a hidden wire are not.
+/// Whether both ends of a wire are visible ports; those of a hidden wire are not. An add has inputs 0 and 1: a wire to its input
+/// 2 does not fit.
 pub fn ends_fit(actors: &[Actor], wire: &Wire) -> bool
     ensures { result ≡ ends_fit actors.now wire.now }
 {

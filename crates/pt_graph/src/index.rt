@@ -5,13 +5,13 @@ ghost use Rattle.pt_types.specs.Lawful.{repeated_from};
 ghost use Rattle.pt_graph.specs.Known.{first_named};
 ghost use Rattle.pt_graph.specs.Index.{at_name, IsFeedIndex};
 
-use crate::known::Named;
+use crate::known::HasName;
 use pt_types::Wire;
 use std::alloc::{AllocError, Global};
 use std::collections::{BTreeMap, HashSet};
 
 /// The number of each name. If two have one name, the map has the first.
-pub fn numbers<'a, T: Named>(
+pub fn numbers<'a, T: HasName>(
     alloc: Global,
     items: &'a [T],
 ) -> Result<BTreeMap<&'a str, usize>, AllocError>
@@ -28,7 +28,7 @@ pub fn numbers<'a, T: Named>(
 }
 
 /// The index of the first item that has the name of an earlier one.
-pub fn repeated<T: Named>(alloc: Global, items: &[T]) -> Result<Option<usize>, AllocError>
+pub fn repeated<T: HasName>(alloc: Global, items: &[T]) -> Result<Option<usize>, AllocError>
     ensures { IfOk result (λ r. r ≡ repeated_from T.name_of [] 0 items.now) }
 {
     let mut numbers = BTreeMap::new(alloc);

@@ -19,14 +19,14 @@ use std::alloc::{AllocError, Global};
 use std::collections::BTreeMap;
 
 /// Something with a name.
-pub trait Named {
+pub trait HasName {
     ghost name_of: { Self → List ℕ };
 
     fn name(&self) -> &str
         ensures { result.now ≡ name_of self.now };
 }
 
-impl Named for Word {
+impl HasName for Word {
     ghost use Rattle.pt_graph.specs.Known.{itself};
 
     ghost name_of = { itself };
@@ -36,7 +36,7 @@ impl Named for Word {
     }
 }
 
-impl Named for ActorText {
+impl HasName for ActorText {
     ghost use Rattle.pt_graph.specs.Known.{name_of_actor};
 
     ghost name_of = { name_of_actor };
@@ -169,7 +169,7 @@ fn is_platform(platforms: &List<Word>, name: &Word) -> bool
 }
 
 /// The index of the first item with this name.
-pub fn index_of<T: Named>(items: &[T], name: &str) -> Option<usize>
+pub fn index_of<T: HasName>(items: &[T], name: &str) -> Option<usize>
     ensures { result ≡ first_named T.name_of items.now name.now }
 {
     items.iter().position(|item| item.name() == name)

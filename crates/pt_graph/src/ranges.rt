@@ -9,11 +9,11 @@ ghost use Rattle.pt_graph.specs.Chains.{found};
 ghost use Rattle.pt_graph.specs.Ranges.{is_time_number, top_range, range_place, head_in_range, kind_in_range, row_in_range, wire_in_range, pair_in_range, sum_is_small};
 
 use pt_graph_text::{
-    ActorText, Document, Head, KindText, LinkText, PairText, Part, Place, RowText, WireText, place,
+    ActorText, Document, KindText, LinkText, PairText, Part, Place, RowText, TopNumbers, WireText,
+    place,
 };
 use pt_tags::List;
-
-const MOST_TIME: i64 = 1_000_000_000_000_000;
+use pt_types::MOST_TIME;
 
 /// The first place with a number out of its range.
 #[tactic(auto, unfolding(crate::specs::Ranges::range_place))]
@@ -80,10 +80,10 @@ fn is_between(low: i64, high: i64, number: i64) -> bool
 fn is_time(number: i64) -> bool
     ensures { result ≡ is_time_number number }
 {
-    is_between(0, MOST_TIME, number)
+    is_between(0, MOST_TIME as i64, number)
 }
 
-fn head_in_range(head: &Head) -> bool
+fn head_in_range(head: &TopNumbers) -> bool
     ensures { result ≡ head_in_range head.now }
 {
     is_between(1, 2, head.version) && is_time(head.until) && is_time(head.clock_error)
@@ -116,7 +116,8 @@ fn kind_in_range(kind: &KindText) -> bool
         KindText::Machine { outputs, rows, .. } => {
             is_between(1, 8, *outputs) && rows_in_range(*outputs, rows.as_slice())
         }
-        KindText::Every { start, period } => is_time(*start) && is_between(1, MOST_TIME, *period),
+        KindText::Every { start, period } => is_time(*start)
+            && is_between(1, MOST_TIME as i64, *period),
         KindText::Lanes { cells } => {
             cells_are_few(cells.as_slice())
                 && cells_in_range(cells.as_slice())

@@ -23,15 +23,16 @@ use crate::limits::too_many;
 use crate::naming::name_place;
 use crate::ranges::range_place;
 use pt_blocks::{Blocks, Named};
-use pt_graph_text::{Document, GraphFault, Head, read_document};
+use pt_graph_text::{Document, GraphFault, TopNumbers, read_document};
 use pt_tags::{List, Name};
-use pt_types::{Actor, Graph, Link, MOST_GRAPH_BYTES, PairError, Wire};
+use pt_types::{Actor, Graph, Link, MOST_GRAPH_BYTES, PairError, USUAL_CLAIMS, Wire};
 use std::alloc::{AllocError, Global};
 use std::collections::BTreeMap;
 
 /// The graph of a text, or its first fault in the order of the checks.
 ///
-/// Actors may name the blocks in `blocks`.
+/// Actors may name the blocks in `blocks`. If actor 2 is a block named `mean`, it has the law of that block; if `blocks` has none
+/// of that name, and nothing else is wrong, the fault is `Block` at actor 2.
 #[tactic(auto, unfolding(crate::specs::GraphOf::graph_of), using(crate::proofs::Lawful::lawful_result))]
 pub fn read_graph(alloc: Global, bytes: &[u8], blocks: &Blocks) -> Result<Graph, GraphFault>
     ensures graph { Gives (graph_of blocks.now.listed.items bytes.now) result }
@@ -171,7 +172,7 @@ fn graph(
 
 #[tactic(auto, unfolding(crate::specs::Graphs::whole_graph))]
 fn whole(
-    head: Head,
+    head: TopNumbers,
     platforms: List<Name>,
     actors: Vec<Actor>,
     wires: Vec<Wire>,
@@ -183,6 +184,7 @@ fn whole(
     Graph {
         until: head.until.unsigned_abs(),
         clock_error: head.clock_error.unsigned_abs(),
+        claims: USUAL_CLAIMS,
         platforms,
         actors: List::new(actors),
         wires: List::new(wires),

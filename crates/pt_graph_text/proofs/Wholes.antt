@@ -21,7 +21,7 @@ use Rattle.pt_graph_text.specs.Faults.{◌>>=◌, Gives, or_fault, array_parts, 
 use Rattle.pt_graph_text.specs.declared.fault.Part.TheVariants as part
 use Rattle.pt_graph_text.specs.declared.fault.GraphFault.{GraphFault}
 use Rattle.pt_graph_text.specs.declared.fault.GraphFault.TheVariants as fault
-use Rattle.pt_graph_text.specs.declared.document.Head.{Head}
+use Rattle.pt_graph_text.specs.declared.document.TopNumbers.{TopNumbers}
 use Rattle.pt_graph_text.specs.declared.document.Document.{Document}
 use Rattle.pt_graph_text.specs.declared.document.ActorText.{ActorText}
 use Rattle.pt_graph_text.specs.declared.document.WireText.{WireText}
@@ -109,7 +109,7 @@ pairs_in-pairs_of : (v : Version) (d : Data) → pairs_in v (list_at (pair_of v)
 pairs_in-pairs_of First d = refl
 pairs_in-pairs_of Second d = list_at-array (pair_of Second) (codes "clock_errors") d
 
-abbrev from_lists : Version → Option Head → Option (Result (List (List ℕ)) ℕ) → Option (Result (List ActorText) ℕ) → Option (Result (List WireText) ℕ) → Option (Result (List LinkText) ℕ) → Option (Result (List PairText) ℕ) → Result Document GraphFault
+abbrev from_lists : Version → Option TopNumbers → Option (Result (List (List ℕ)) ℕ) → Option (Result (List ActorText) ℕ) → Option (Result (List WireText) ℕ) → Option (Result (List LinkText) ℕ) → Option (Result (List PairText) ℕ) → Result Document GraphFault
 from_lists v h p a w l r = do
   head ← or_fault (fault.Member top) h
   platforms ← or_fault (fault.Member top) p
@@ -124,7 +124,7 @@ from_lists v h p a w l r = do
   pairs ← array_parts part.Pair pairs
   Ok (record { version = v; head = head; platforms = platforms; actors = actors; wires = wires; links = links; pairs = pairs })
 
-abbrev from_items : Version → Option Head → Option Items → Option Items → Option Items → Option Items → Option Items → Result Document GraphFault
+abbrev from_items : Version → Option TopNumbers → Option Items → Option Items → Option Items → Option Items → Option Items → Result Document GraphFault
 from_items v h p a w l r = do
   head ← or_fault (fault.Member top) h
   platforms ← or_fault (fault.Member top) p
@@ -139,7 +139,7 @@ from_items v h p a w l r = do
   pairs ← array_parts part.Pair (each_from (pair_of v) 0 pairs)
   Ok (record { version = v; head = head; platforms = platforms; actors = actors; wires = wires; links = links; pairs = pairs })
 
-in_turn : (v : Version) (h : Option Head) (p a w l r : Option Items)
+in_turn : (v : Version) (h : Option TopNumbers) (p a w l r : Option Items)
     → from_lists v h (option_map (each_from as_str 0) p) (option_map (each_from (actor_of v) 0) a) (option_map (each_from (wire_of v) 0) w) (option_map (each_from (link_of v) 0) l) (option_map (each_from (pair_of v) 0) r) ≡ from_items v h p a w l r
 in_turn v None p a w l r = refl
 in_turn v (Some h) None a w l r = refl
@@ -149,7 +149,7 @@ in_turn v (Some h) (Some p) (Some a) (Some w) None r = refl
 in_turn v (Some h) (Some p) (Some a) (Some w) (Some l) None = refl
 in_turn v (Some h) (Some p) (Some a) (Some w) (Some l) (Some r) = refl
 
-same : (v : Version) {h h' : Option Head} {p p' : Option (Result (List (List ℕ)) ℕ)} {a a' : Option (Result (List ActorText) ℕ)} {w w' : Option (Result (List WireText) ℕ)} {l l' : Option (Result (List LinkText) ℕ)} {r r' : Option (Result (List PairText) ℕ)}
+same : (v : Version) {h h' : Option TopNumbers} {p p' : Option (Result (List (List ℕ)) ℕ)} {a a' : Option (Result (List ActorText) ℕ)} {w w' : Option (Result (List WireText) ℕ)} {l l' : Option (Result (List LinkText) ℕ)} {r r' : Option (Result (List PairText) ℕ)}
     → h ≡ h' → p ≡ p' → a ≡ a' → w ≡ w' → l ≡ l' → r ≡ r' → from_lists v h p a w l r ≡ from_lists v h' p' a' w' l' r'
 same v {h' = h'} {p} {p'} {a} {a'} {w} {w'} {l} {l'} {r} hh hp ha hw hl hr =
     ap (λ x. from_lists v x p a w l r) hh ∙ ap (λ x. from_lists v h' x a w l r) hp ∙ ap (λ x. from_lists v h' p' x w l r) ha ∙ ap (λ x. from_lists v h' p' a' x l r) hw ∙ ap (λ x. from_lists v h' p' a' w' x r) hl ∙ ap (λ x. from_lists v h' p' a' w' l' x) hr

@@ -13,7 +13,7 @@ use Rattle.pt_graph_text.specs.declared.fault.GraphFault.{GraphFault}
 use Rattle.pt_graph_text.specs.declared.fault.GraphFault.TheVariants as fault
 use Rattle.pt_graph_text.specs.declared.version.Version.{Version}
 use Rattle.pt_graph_text.specs.declared.version.Version.TheVariants.{First, Second}
-use Rattle.pt_graph_text.specs.declared.document.Head.{Head}
+use Rattle.pt_graph_text.specs.declared.document.TopNumbers.{TopNumbers}
 use Rattle.pt_graph_text.specs.declared.document.Document.{Document}
 
 -- the top object has seven members, and in version 2 one more
@@ -22,7 +22,7 @@ top_members First = 7
 top_members Second = 8
 
 -- the numbers of the top object
-unfoldable pub head_of : Version → Data → Option Head
+unfoldable pub head_of : Version → Data → Option TopNumbers
 head_of v d = only_if (has_members (top_members v) d)
     (decoding.◌>>=◌ (field whole (codes "ptides") d) (λ version.
     decoding.◌>>=◌ (field whole (codes "until") d) (λ until.

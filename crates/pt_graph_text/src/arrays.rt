@@ -2,7 +2,7 @@
 
 use crate::apart::{Listed, read_apart, read_hollow};
 use crate::document::{ActorText, LinkText, PairText, WireText};
-use crate::object::Lists;
+use crate::object::ObjectArrays;
 use crate::reading::Unread;
 use crate::version::Version;
 use crate::word::Word;
@@ -20,7 +20,7 @@ pub struct Arrays {
     pub pairs: Option<Listed<PairText>>,
 }
 
-impl Lists for Arrays {
+impl ObjectArrays for Arrays {
     ghost use Rattle.pt_graph_text.specs.Arrays.{arrays_of};
 
     ghost lists_of = { arrays_of };

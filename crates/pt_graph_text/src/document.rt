@@ -66,7 +66,7 @@ pub struct PairText {
 
 /// The numbers of the top object.
 #[derive(Clone, Copy, Debug)]
-pub struct Head {
+pub struct TopNumbers {
     /// The member `ptides`.
     pub version: i64,
     pub until: i64,
@@ -77,7 +77,7 @@ pub struct Head {
 #[derive(Drop)]
 pub struct Document {
     pub version: Version,
-    pub head: Head,
+    pub head: TopNumbers,
     pub platforms: List<Word>,
     pub actors: List<ActorText>,
     pub wires: List<WireText>,

@@ -6,7 +6,7 @@ ghost use Rattle.pt_graph_text.specs.Inner.{kind_with, with_inner};
 use crate::apart::{Listed, read_apart, read_hollow};
 use crate::document::{ActorText, RowText};
 use crate::kinds::KindText;
-use crate::object::Lists;
+use crate::object::ObjectArrays;
 use crate::reading::Unread;
 use crate::version::Version;
 use json::Reader;
@@ -20,7 +20,7 @@ pub struct Inner {
     pub cells: Option<Listed<i64>>,
 }
 
-impl Lists for Inner {
+impl ObjectArrays for Inner {
     ghost use Rattle.pt_graph_text.specs.Inner.{inner_of};
 
     ghost lists_of = { inner_of };

@@ -23,7 +23,7 @@ mod whole;
 mod word;
 
 pub use decode::{Decode, Misfit, Stop};
-pub use document::{ActorText, Document, Head, LinkText, PairText, RowText, WireText};
+pub use document::{ActorText, Document, LinkText, PairText, RowText, TopNumbers, WireText};
 pub use fault::{GraphFault, Part, Place, What};
 pub use kinds::KindText;
 pub use lines::fault_line;

@@ -75,7 +75,7 @@ impl fmt::Display for GraphFault {
 
 impl Error for GraphFault {}
 
-/// Appends the line of a fault, with its line feed.
+/// Appends the line of a fault, with its line feed, as `graph: block at actor 2`.
 pub fn fault_line(text: &mut String, fault: &GraphFault) -> Result<(), AllocError>
     ensures { OnOk result (string_bytes text.new ≡ string_bytes text.old ++ fault_line fault.now) }
 {

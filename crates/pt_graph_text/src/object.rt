@@ -16,7 +16,7 @@ use serde_json::value::Map;
 use std::alloc::Global;
 
 /// The arrays of an object that are decoded separately.
-pub trait Lists: Drop {
+pub trait ObjectArrays: Drop {
     /// The arrays of an object with these members.
     ghost lists_of: { Version → Members → Self };
 
@@ -43,14 +43,14 @@ pub trait Lists: Drop {
 
 /// A value; if it is an object, with its arrays decoded separately.
 #[derive(Drop)]
-pub struct Object<L: Lists> {
+pub struct Object<L: ObjectArrays> {
     /// The value; the arrays among its members have no items.
     pub left: Value,
     pub lists: L,
 }
 
 /// Reads the next value.
-pub fn read_object<L: Lists>(
+pub fn read_object<L: ObjectArrays>(
     alloc: Global,
     version: Version,
     reader: &mut Reader<'_>,
@@ -82,7 +82,7 @@ pub fn read_object<L: Lists>(
 }
 
 /// Reads the members after an opening bracket, and the closing one.
-fn read_members<L: Lists>(
+fn read_members<L: ObjectArrays>(
     alloc: Global,
     version: Version,
     reader: &mut Reader<'_>,

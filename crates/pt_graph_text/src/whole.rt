@@ -13,7 +13,7 @@ ghost use Rattle.pt_graph_text.specs.Whole.{head_of, top_members, document_of_te
 use crate::apart::Listed;
 use crate::arrays::Arrays;
 use crate::decode::{Misfit, has_members, member};
-use crate::document::{Document, Head, PairText};
+use crate::document::{Document, PairText, TopNumbers};
 use crate::fault::{GraphFault, Part, Place};
 use crate::object::{Object, read_object};
 use crate::reading::Unread;
@@ -112,13 +112,13 @@ fn document_with(
 
 /// The numbers of the top object.
 #[tactic(auto, unfolding(crate::specs::Whole::head_of))]
-fn head(alloc: Global, version: Version, value: &Value) -> Result<Head, Misfit>
+fn head(alloc: Global, version: Version, value: &Value) -> Result<TopNumbers, Misfit>
     ensures { Decodes (head_of version (view value.now)) result }
 {
     if !has_members(value, top_members(version)) {
         return Err(Misfit::Member);
     }
-    Ok(Head {
+    Ok(TopNumbers {
         version: member(alloc, version, value, "ptides")?,
         until: member(alloc, version, value, "until")?,
         clock_error: member(alloc, version, value, "clock_error")?,

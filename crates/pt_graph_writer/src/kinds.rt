@@ -9,7 +9,7 @@ use crate::encode::{Encode, entries};
 use crate::members::{named, one, two};
 use crate::parts::block_name;
 use pt_blocks::Named;
-use pt_tags::List;
+use pt_tags::{List, Time};
 use pt_types::{Actor, Graph, Kind, MachineRow};
 use serde_json::{Map, Value, put};
 use std::alloc::{AllocError, Global};
@@ -141,7 +141,7 @@ fn lanes(
     )
 }
 
-fn every(alloc: Global, start: u64, period: u64) -> Result<Map<String, Value>, AllocError>
+fn every(alloc: Global, start: Time, period: u64) -> Result<Map<String, Value>, AllocError>
     ensures { IfOk result (λ m. members_view m.entries ≡ members (kind_fields [] (kind.Every start period))) }
 {
     let start = Value::from(start);

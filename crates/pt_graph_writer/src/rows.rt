@@ -20,7 +20,7 @@ impl Encode for MachineRow {
     ghost fits = { row_numbers_fit };
 
     fn encode(&self, alloc: Global, _graph: &Graph, blocks: &[Named]) -> Result<Value, AllocError> {
-        let mut members = guard_members(alloc, blocks, self.guard)?;
+        let mut members = guard_members(alloc, blocks, &self.guard)?;
         put(&mut members, alloc, "emit", emit_value(alloc, self.emit)?)?;
         put(&mut members, alloc, "next", Value::from(self.next))?;
         put(&mut members, alloc, "high", Value::from(self.high))?;
@@ -34,12 +34,12 @@ impl Encode for MachineRow {
 fn guard_members(
     alloc: Global,
     blocks: &[Named],
-    guard: Option<(u32, Law)>,
+    guard: &Option<(u32, Law)>,
 ) -> Result<Map<String, Value>, AllocError>
-    ensures { IfOk result (λ m. members_view m.entries ≡ members (guard_fields blocks.now guard)) }
+    ensures { IfOk result (λ m. members_view m.entries ≡ members (guard_fields blocks.now guard.now)) }
 {
     match guard {
-        Some((block, _)) => named(alloc, "guard", block_name(blocks, block)),
+        Some((block, _)) => named(alloc, "guard", block_name(blocks, *block)),
         None => Ok(Map::new(alloc)),
     }
 }

@@ -9,14 +9,15 @@ pub mod Dated
 pub mod LastMember
 pub mod Filling
 pub mod FirstTwo
-pub mod CellLists
+pub mod MaskLists
+pub mod Comparing
+pub mod Prefixes
 pub mod MarkLists
 pub mod SourceLists
 pub mod TaskLists
 pub mod DoneLists
 pub mod Ended
 pub mod InTurn
-pub mod Matching
 pub mod Blocks
 pub mod ValuesAt
 pub mod Starts

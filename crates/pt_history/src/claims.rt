@@ -92,9 +92,10 @@ impl Claims {
     }
 
     /// Whether claim `number` is this task. Nothing is read that isn't compared.
-    pub fn is(&self, number: usize, task: &Task) -> bool
-        requires { number < length self.now.tasks }
-        ensures { result ≡ true → slice_get self.now.tasks number ≡ Some task.now }
+    pub fn is(&mut self, number: usize, task: &Task) -> bool
+        requires { number < length self.old.tasks }
+        ensures same { result ≡ true → slice_get self.old.tasks number ≡ Some task.now }
+        ensures unchanged { self.new ≡ self.old }
     {
         same_mark(self.marks.at(number), mark_of(task))
             && self.cells.is(number, &task.inputs, task.state)

@@ -2,6 +2,8 @@
 
 ghost use Rattle.std.specs.Prelude.{◌≡◌};
 
+use pt_tags::Reading;
+
 /// The first and the last reading of a recorded turn, and the number of turns it stands for: 1, or more for a run of quiet
 /// turns that are recorded as one.
 #[derive(Clone, Copy, Debug, PartialEq, Eq)]
@@ -15,7 +17,7 @@ pub struct Head {
 
 impl Head {
     /// The head of a single turn at a reading, in microseconds.
-    pub(crate) fn single(reading: u64) -> Head
+    pub(crate) fn single(reading: Reading) -> Head
         ensures { result ≡ record { first = reading; last = reading; count = 1 } }
     {
         Head {

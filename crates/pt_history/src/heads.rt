@@ -9,7 +9,7 @@ use crate::head::Head;
 use crate::levels::HeadLevels;
 use crate::past_heads::PastHeads;
 use crate::pieces::MOST_ITEMS;
-use pt_tags::Memory;
+use pt_tags::{Memory, Reading};
 use std::alloc::Global;
 use std::marker::Model;
 
@@ -77,7 +77,7 @@ impl Heads {
 
     /// Appends the head of a single turn at a reading, in microseconds. Allocates nothing.
     #[inline(always)]
-    pub fn push(&mut self, reading: u64)
+    pub fn push(&mut self, reading: Reading)
         requires { 0 < self.old.spare }
         ensures items { self.new.items ≡ self.old.items ++ single reading ∷ [] }
         ensures room { self.old.spare ≤ self.new.spare + 1 }
@@ -92,7 +92,7 @@ impl Heads {
 
     /// Does the same as `push`, whatever the last two heads are. Not inlined, since mostly both are of single turns.
     #[inline(never)]
-    fn push_after(&mut self, reading: u64)
+    fn push_after(&mut self, reading: Reading)
         requires { 0 < self.old.spare }
         ensures items { self.new.items ≡ self.old.items ++ single reading ∷ [] }
         ensures room { self.old.spare ≤ self.new.spare + 1 }
@@ -112,7 +112,7 @@ impl Heads {
     }
 
     /// Replaces the last two heads by another one and that of a single turn at a reading, in microseconds.
-    pub fn replace(&mut self, before: Head, reading: u64)
+    pub fn replace(&mut self, before: Head, reading: Reading)
         requires { 2 ≤ length self.old.items }
         ensures items { self.new.items ≡ slice_set (slice_set self.old.items (length self.old.items - 2) before) (length self.old.items - 1) (single reading) }
         ensures room { self.new.spare ≡ self.old.spare }

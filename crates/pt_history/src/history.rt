@@ -18,7 +18,7 @@ use crate::levels::TurnLevels;
 use crate::posted_at::PostedAt;
 use crate::room::Room;
 use crate::work_lists::WorkLists;
-use pt_tags::Memory;
+use pt_tags::{Memory, Reading};
 use pt_types::{Done, OnLink, RowAt, Task};
 use std::alloc::Global;
 use std::marker::Model;
@@ -108,7 +108,7 @@ impl History {
     /// Begins a turn at a reading, in microseconds. First the last two turns are joined, if both are quiet and 64 bits hold
     /// the sum of their counts (this project's own choice: a history does not grow while nothing happens).
     /// This uses the room of one turn, and allocates nothing.
-    pub fn begin(&mut self, reading: u64)
+    pub fn begin(&mut self, reading: Reading)
         requires { 0 < self.old.room.turns }
         ensures turns { self.new.turns ≡ kept_with self.old.turns (fresh reading) }
         ensures room { self.new.room ≡ record self.old.room { turns = self.old.room.turns - 1 } }
@@ -125,7 +125,7 @@ impl History {
     /// Does the same as `begin`, but needs no room if two turns are joined; returns `false` and changes nothing if a turn is
     /// to be added and there is no room for it. Allocates nothing.
     #[inline(always)]
-    pub fn rest(&mut self, reading: u64) -> bool
+    pub fn rest(&mut self, reading: Reading) -> bool
         ensures turns { result ≡ true → self.new.turns ≡ kept_with self.old.turns (fresh reading) }
         ensures room { result ≡ true → record self.new.room { turns = self.old.room.turns } ≡ self.old.room }
         ensures used { self.old.room.turns ≤ self.new.room.turns + 1 }
@@ -149,7 +149,7 @@ impl History {
 
     /// Adds a quiet turn at a reading, in microseconds, at the end. Not inlined, since `rest` mostly joins.
     #[inline(never)]
-    fn add(&mut self, reading: u64)
+    fn add(&mut self, reading: Reading)
         requires { 0 < self.old.room.turns }
         ensures turns { self.new.turns ≡ self.old.turns ++ fresh reading ∷ [] }
         ensures room { self.new.room ≡ record self.old.room { turns = self.old.room.turns - 1 } }
@@ -165,7 +165,7 @@ impl History {
     }
 
     /// Replaces the last two turns, which are quiet, by their joined run and a new quiet turn at a reading, in microseconds.
-    fn join(&mut self, run: Head, reading: u64)
+    fn join(&mut self, run: Head, reading: Reading)
         requires { Joins self.old.turns (length self.old.turns - 2) run }
         ensures turns { self.new.turns ≡ take (length self.old.turns - 2) self.old.turns ++ quiet run.first run.last run.count ∷ fresh reading ∷ [] }
         ensures room { self.new.room ≡ self.old.room }

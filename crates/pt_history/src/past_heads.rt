@@ -8,7 +8,7 @@ use crate::head::Head;
 use crate::levels::HeadLevels;
 use crate::pieces::Pieces;
 use crate::repeats::Repeats;
-use pt_tags::Memory;
+use pt_tags::{Memory, Reading};
 use std::alloc::Global;
 use std::marker::Model;
 
@@ -137,7 +137,7 @@ impl PastHeads {
 
 /// Appends a reading to the last ones, of which `newest` is the last. That an equal one is only counted saves memory.
 #[inline(always)]
-fn store(lasts: &mut Repeats<u64>, newest: &mut Option<u64>, reading: u64)
+fn store(lasts: &mut Repeats<u64>, newest: &mut Option<u64>, reading: Reading)
     requires room { 0 < lasts.old.spare }
     requires newest { newest.old ≡ slice_get lasts.old.items (length lasts.old.items - 1) }
     ensures items { lasts.new.items ≡ lasts.old.items ++ reading ∷ [] }

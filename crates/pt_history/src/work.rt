@@ -121,7 +121,7 @@ impl Work {
         ensures claims { self.new.spare_tasks ≡ self.old.spare_tasks }
         ensures results { self.new.spare_dones + 1 ≡ self.old.spare_dones }
     {
-        let source = source_of(&self.claims, &mut self.others, &done.task);
+        let source = source_of(&mut self.claims, &mut self.others, &done.task);
         self.sources.push(source);
         self.fired.push(&done.fired.outputs, done.fired.state);
         self.spare -= 1;
@@ -208,10 +208,11 @@ fn done_of(task: Task, cells: &[Option<i64>; 9]) -> Done
 }
 
 /// Stores the task of a result: as the claim of its number if it is that, or else whole. Allocates nothing.
-fn source_of(claims: &Claims, others: &mut Vec<Task>, task: &Task) -> Source
+fn source_of(claims: &mut Claims, others: &mut Vec<Task>, task: &Task) -> Source
     requires room { vec_len others.old < vec_capacity others.old }
     requires fits { length others.old.items + 1 < 2 ^ 32 }
-    ensures stored { IsStored claims.now.tasks others.old.items others.new.items task.now result }
+    ensures claims { claims.new ≡ claims.old }
+    ensures stored { IsStored claims.old.tasks others.old.items others.new.items task.now result }
     ensures room { vec_capacity others.old ≤ vec_capacity others.new }
 {
     if let Some(number) = claim_of(claims, task) {
@@ -223,8 +224,9 @@ fn source_of(claims: &Claims, others: &mut Vec<Task>, task: &Task) -> Source
 }
 
 /// The number of the claim that is this task; `None` if the claim of its number is another, or if there is none.
-fn claim_of(claims: &Claims, task: &Task) -> Option<u32>
-    ensures { IfSome result (λ number. slice_get claims.now.tasks number ≡ Some task.now) }
+fn claim_of(claims: &mut Claims, task: &Task) -> Option<u32>
+    ensures is { IfSome result (λ number. slice_get claims.old.tasks number ≡ Some task.now) }
+    ensures unchanged { claims.new ≡ claims.old }
 {
     if task.number >= claims.len() as u64 || task.number > u32::MAX as u64 {
         return None;

@@ -2,22 +2,22 @@
 use Rattle.std.proofs.Common.{◌≡◌, ℕ, zero, suc, ◌+◌, ◌^◌, ◌<◌, ◌≤◌, ◌⊎◌, ⊎_elim, inl, inr, Bool, true, false, List, Some, None, length, [], ◌∷◌, ◌++◌, refl, sym, ap, ◌∙◌, arith, append_assoc, append-nil, length-append}
 use Rattle.std.proofs.lemmas.Bool.{cases_lt}
 use Rattle.std.specs.Prelude.{if◌then◌else◌, Option}
-use Rattle.pt_io.specs.Told.{AreAsAhead, HandedOut, IsAsAhead, TellsOneMore, first_readings}
+use Rattle.pt_io.specs.Clocks.{AreAsAhead, HandedOut, IsAsAhead, ReportsOneMore, first_readings}
 
 pub length-first : (f : ℕ → ℕ) (n : ℕ) → length (first_readings f n) ≡ n
 length-first f zero = refl
 length-first f (suc n) = omega (arith, length-append (first_readings f n) (f n ∷ []), length-first f n)
 
-pub stops : (f : ℕ → ℕ) (n next : ℕ) (tells : Bool) → 2 ^ 64 ≤ n + 1 → TellsOneMore (if tells then Some (first_readings f n) else None) next None
+pub stops : (f : ℕ → ℕ) (n next : ℕ) (contents : Bool) → 2 ^ 64 ≤ n + 1 → ReportsOneMore (if contents then Some (first_readings f n) else None) next None
 stops f n next true full = omega (arith, length-first f n)
 stops f n next false full = refl
 
 -- the next reading is the one of its number
-pub as_ahead : (f : ℕ → ℕ) (n next : ℕ) (tells : Bool) → (tells ≡ true → next ≡ f n) → IsAsAhead (Some f) (if tells then Some (first_readings f n) else None) next
+pub as_ahead : (f : ℕ → ℕ) (n next : ℕ) (contents : Bool) → (contents ≡ true → next ≡ f n) → IsAsAhead (Some f) (if contents then Some (first_readings f n) else None) next
 as_ahead f n next true h = h refl ∙ ap f (sym (length-first f n))
 as_ahead f n next false h = tt
 
-pub goes_on : (f : ℕ → ℕ) (n next : ℕ) (tells : Bool) → (tells ≡ true → next ≡ f n) → TellsOneMore (if tells then Some (first_readings f n) else None) next (if tells then Some (first_readings f (suc n)) else None)
+pub goes_on : (f : ℕ → ℕ) (n next : ℕ) (contents : Bool) → (contents ≡ true → next ≡ f n) → ReportsOneMore (if contents then Some (first_readings f n) else None) next (if contents then Some (first_readings f (suc n)) else None)
 goes_on f n next true h = ap (λ r. first_readings f n ++ r ∷ []) (sym (h refl))
 goes_on f n next false h = refl
 
@@ -29,7 +29,7 @@ none_some : {X : Type 0} (x : X) → Some x ≡ None → ⊥
 none_some x e = cc
 
 -- one reading more was handed out
-pub handed_more : (began before now : Option (List ℕ)) (readings : List ℕ) (r : ℕ) → HandedOut began before readings → TellsOneMore before r now → HandedOut began now (readings ++ r ∷ [])
+pub handed_more : (began before now : Option (List ℕ)) (readings : List ℕ) (r : ℕ) → HandedOut began before readings → ReportsOneMore before r now → HandedOut began now (readings ++ r ∷ [])
 handed_more None None now readings r h one = one
 handed_more None (Some all) now readings r h one = absurd (none_some all h)
 handed_more (Some b) None None readings r h one = omega (arith, h, length-append readings (r ∷ []))
@@ -44,7 +44,7 @@ first_more f readings r h is =
     ap (λ z. readings ++ z ∷ []) is ∙ ap (λ z. z ++ f (length readings) ∷ []) h ∙ sym (ap (first_readings f) n)
 
 -- and it is the one fixed ahead
-pub ahead_more : (ahead : Option (ℕ → ℕ)) (began before now : Option (List ℕ)) (readings : List ℕ) (r : ℕ) → HandedOut began before readings → AreAsAhead ahead began before readings → IsAsAhead ahead before r → TellsOneMore before r now → AreAsAhead ahead began now (readings ++ r ∷ [])
+pub ahead_more : (ahead : Option (ℕ → ℕ)) (began before now : Option (List ℕ)) (readings : List ℕ) (r : ℕ) → HandedOut began before readings → AreAsAhead ahead began before readings → IsAsAhead ahead before r → ReportsOneMore before r now → AreAsAhead ahead began now (readings ++ r ∷ [])
 ahead_more None began before now readings r h a is one = tt
 ahead_more (Some f) began before None readings r h a is one = λ e. tt
 ahead_more (Some f) began None (Some l) readings r h a is one = λ e. absurd (none_some l one)

@@ -1,4 +1,5 @@
 pub mod Causes
 pub mod Contents
 pub mod Rooms
-pub mod Told
+pub mod Calls
+pub mod Clocks

@@ -91,7 +91,7 @@ impl<O: Opener + Drop> FileSource<O> {
 }
 
 impl<O: Opener + Drop> Source for FileSource<O> {
-    ghost tells = { λ s. O.content s.files };
+    ghost contents = { λ s. O.content s.files };
 
     ghost asked = { λ s. None };
 

@@ -105,6 +105,7 @@ impl<W: Write + Drop> Sink for OutSink<W> {
         ensures part { OnErr result (AppendsPart (append_known (W.contents self.old.out) self.old.held.items) (append_known (W.contents self.new.out) self.new.held.items) bytes.now) }
         ensures counted { self.new.faults ≡ counted_if (is_err result) self.old.faults }
         ensures grows { self.old.faults ≤ self.new.faults }
+        ensures uncounted { OnOk result (self.new.faults ≡ self.old.faults) }
         ensures failed { OnErr result (Rose self.old.faults self.new.faults) }
     {
         if self.held.capacity() - self.held.len() < bytes.len() {
@@ -122,6 +123,7 @@ impl<W: Write + Drop> Sink for OutSink<W> {
         ensures keeps { Keeps (append_known (W.contents self.old.out) self.old.held.items) (append_known (W.contents self.new.out) self.new.held.items) }
         ensures counted { self.new.faults ≡ counted_if (is_err result) self.old.faults }
         ensures grows { self.old.faults ≤ self.new.faults }
+        ensures uncounted { OnOk result (self.new.faults ≡ self.old.faults) }
         ensures failed { OnErr result (Rose self.old.faults self.new.faults) }
     {
         self.write_held()
@@ -167,6 +169,7 @@ impl<W: Write + Drop> Sink for NotesSink<W> {
         ensures part { OnErr result (AppendsPart (W.contents self.old.out) (W.contents self.new.out) bytes.now) }
         ensures counted { self.new.faults ≡ counted_if (is_err result) self.old.faults }
         ensures grows { self.old.faults ≤ self.new.faults }
+        ensures uncounted { OnOk result (self.new.faults ≡ self.old.faults) }
         ensures failed { OnErr result (Rose self.old.faults self.new.faults) }
     {
         if write_out(bytes, &mut self.out) < bytes.len() {
@@ -181,6 +184,7 @@ impl<W: Write + Drop> Sink for NotesSink<W> {
         ensures unchanged { self.new ≡ self.old }
         ensures keeps { Keeps (W.contents self.old.out) (W.contents self.new.out) }
         ensures grows { self.old.faults ≤ self.new.faults }
+        ensures uncounted { OnOk result (self.new.faults ≡ self.old.faults) }
         ensures failed { OnErr result (Rose self.old.faults self.new.faults) }
     {
         Ok(())

@@ -79,6 +79,7 @@ impl Sink for Page {
         ensures all { OnOk result (Appends (Some self.old.bytes.items) (Some self.new.bytes.items) bytes.now) }
         ensures part { OnErr result (AppendsPart (Some self.old.bytes.items) (Some self.new.bytes.items) bytes.now) }
         ensures grows { self.old.faults ≤ self.new.faults }
+        ensures uncounted { OnOk result (self.new.faults ≡ self.old.faults) }
         ensures failed { OnErr result (Rose self.old.faults self.new.faults) }
     {
         let limit = self.limit();
@@ -100,6 +101,7 @@ impl Sink for Page {
         ensures all { Unit {0} }
         ensures keeps { Keeps (Some self.old.bytes.items) (Some self.new.bytes.items) }
         ensures grows { self.old.faults ≤ self.new.faults }
+        ensures uncounted { OnOk result (self.new.faults ≡ self.old.faults) }
         ensures failed { OnErr result (Rose self.old.faults self.new.faults) }
     {
         Ok(())

@@ -62,7 +62,7 @@ impl Shelf {
 }
 
 impl Source for Shelf {
-    ghost tells = { λ s. content s.contents.items };
+    ghost contents = { λ s. content s.contents.items };
 
     ghost asked = { λ s. Some s.asked.items };
 

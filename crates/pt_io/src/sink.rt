@@ -34,6 +34,7 @@ pub trait Sink {
         ensures all { OnOk result (Appends (written self.old) (written self.new) bytes.now) }
         ensures part { OnErr result (AppendsPart (written self.old) (written self.new) bytes.now) }
         ensures grows { faults self.old ≤ faults self.new }
+        ensures uncounted { OnOk result (faults self.new ≡ faults self.old) }
         ensures failed { OnErr result (Rose (faults self.old) (faults self.new)) };
 
     /// Writes the buffer.
@@ -41,5 +42,6 @@ pub trait Sink {
         ensures all { OnOk result (flushed self.new) }
         ensures keeps { Keeps (written self.old) (written self.new) }
         ensures grows { faults self.old ≤ faults self.new }
+        ensures uncounted { OnOk result (faults self.new ≡ faults self.old) }
         ensures failed { OnErr result (Rose (faults self.old) (faults self.new)) };
 }

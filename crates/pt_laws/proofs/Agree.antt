@@ -4,7 +4,7 @@ use Rattle.std.proofs.lemmas.Bool.{cases_Bool, cases_lt, and_parts}
 use Rattle.pt_tags.specs.declared.tag.Tag.{Tag}
 use Rattle.pt_tags.specs.declared.tag.Delay.{Delay}
 use Rattle.pt_types.specs.declared.graph.Graph.{Graph}
-use Rattle.pt_types.specs.declared.graph.Unit.{Unit as Part}
+use Rattle.pt_types.specs.declared.graph.Unit.{Unit}
 use Rattle.pt_tags.specs.Tags.{Before, same_tag, plus}
 use Rattle.pt_semantics.specs.Lists.{first_of, or_else, IsIn, Each}
 use Rattle.pt_types.specs.Ports.{when, at_port}
@@ -96,16 +96,16 @@ brings_agree w o t xs ys rx ry same =
     (cases_less w t)
 
 -- the unit of an edge's end, from what the tests say
-pub at_end : (g : Graph) (e : Edge) (u : Part) (p : ℕ) → e.to ≡ u.actor → e.input ≡ p → input_group (kind_of g u.actor) p ≡ u.group → target g e ≡ u
+pub at_end : (g : Graph) (e : Edge) (u : Unit) (p : ℕ) → e.to ≡ u.actor → e.input ≡ p → input_group (kind_of g u.actor) p ≡ u.group → target g e ≡ u
 at_end g e u p ea ep eg =
     let group : input_group (kind_of g e.to) e.input ≡ u.group = ap₂ (λ a q. input_group (kind_of g a) q) ea ep ∙ eg in
     λ i. record { actor = ea i; group = group i }
 
-abbrev Same : Firings → Firings → Part → Tag → Type 0
+abbrev Same : Firings → Firings → Unit → Tag → Type 0
 Same f h u t = firing_at (f u) t ≡ firing_at (h u) t
 
 -- a tag and a rank come before a tag and a rank
-abbrev Sooner : (ℕ → ℕ) → Part → Tag → Part → Tag → Type 0
+abbrev Sooner : (ℕ → ℕ) → Unit → Tag → Unit → Tag → Type 0
 Sooner rank v s u t = Lower s.time s.step (rank v.actor) t.time t.step (rank u.actor)
 
 sooner_edge : (a b c x y z wt ws : ℕ) → a + wt ≡ x → b + ws ≡ y → ((wt ≡ 0) → (ws ≡ 0) → c < z) → Lower a b c x y z
@@ -114,20 +114,20 @@ sooner_edge a b c x y z wt ws et es r = (omega arith, λ k. (omega arith, λ j. 
 lower_at : (a b c : ℕ) {x y z x' y' z' : ℕ} → x ≡ x' → y ≡ y' → z ≡ z' → Lower a b c x y z → Lower a b c x' y' z'
 lower_at a b c {x} {y} {z} {x'} {y'} {z'} ex ey ez l = subst (λ w. Lower a b c x' y' w) ez (subst (λ w. Lower a b c x' w z) ey (subst (λ w. Lower a b c w y z) ex l))
 
-module _ (g : Graph) (given : Values) (rank : ℕ → ℕ) (grows : GrowsAlong g rank) (D : Part → Tag → Type 0) (closed : IsClosed g D) (f h : Firings) (bf : Behaves g given D f) (bh : Behaves g given D h) where
+module _ (g : Graph) (given : Values) (rank : ℕ → ℕ) (grows : GrowsAlong g rank) (D : Unit → Tag → Type 0) (closed : IsClosed g D) (f h : Firings) (bf : Behaves g given D f) (bh : Behaves g given D h) where
   -- what comes along an edge that leads to this input
-  along : (u : Part) (t : Tag) → D u t → ((v : Part) (s : Tag) → Sooner rank v s u t → D v s → Same f h v s) → (e : Edge) → IsIn e (edges g) → target g e ≡ u → comes_along f g e t ≡ comes_along h g e t
+  along : (u : Unit) (t : Tag) → D u t → ((v : Unit) (s : Tag) → Sooner rank v s u t → D v s → Same f h v s) → (e : Edge) → IsIn e (edges g) → target g e ≡ u → comes_along f g e t ≡ comes_along h g e t
   along u t d before e mem end =
       brings_agree e.weight e.output t (f (source g e)) (h (source g e)) (bf.rising (source g e)) (bh.rising (source g e))
       (λ s es.
       let dt : D (target g e) (plus s e.weight) = subst (λ v. D v (plus s e.weight)) (sym end) (subst (λ v. D u v) (sym es) d) in
-      let actors : e.to ≡ u.actor = ap (λ (v : Part). v.actor) end in
+      let actors : e.to ≡ u.actor = ap (λ (v : Unit). v.actor) end in
       let times : s.time + e.weight.time ≡ t.time = ap (λ (v : Tag). v.time) es in
       let steps : s.step + e.weight.step ≡ t.step = ap (λ (v : Tag). v.step) es in
       let ranks : (e.weight.time ≡ 0) → (e.weight.step ≡ 0) → rank e.from < rank u.actor = λ a b. subst (λ v. rank e.from < rank v) actors (grows e mem a b) in
       before (source g e) s (sooner_edge s.time s.step (rank e.from) t.time t.step (rank u.actor) e.weight.time e.weight.step times steps ranks) (closed.sources e s mem dt))
 
-  inputs_agree : (u : Part) (t : Tag) → D u t → ((v : Part) (s : Tag) → Sooner rank v s u t → D v s → Same f h v s) → unit_inputs g (comes g given f) u t ≡ unit_inputs g (comes g given h) u t
+  inputs_agree : (u : Unit) (t : Tag) → D u t → ((v : Unit) (s : Tag) → Sooner rank v s u t → D v s → Same f h v s) → unit_inputs g (comes g given f) u t ≡ unit_inputs g (comes g given h) u t
   inputs_agree u t d before =
       eight_same _ _ (λ p.
       when_same (input_group (kind_of g u.actor) p == u.group) (comes g given f u.actor p t) (comes g given h u.actor p t) (λ eg.
@@ -137,7 +137,7 @@ module _ (g : Graph) (given : Values) (rank : ℕ → ℕ) (grows : GrowsAlong g
       let parts = and_parts (e.to == u.actor) (e.input == p) both in
       along u t d before e mem (at_end g e u p (eqb-true e.to u.actor parts.0) (eqb-true e.input p parts.1) (eqb-true _ u.group eg)))))))
 
-  agree_step : (u : Part) (t : Tag) → D u t → ((v : Part) (s : Tag) → Sooner rank v s u t → D v s → Same f h v s) → Same f h u t
+  agree_step : (u : Unit) (t : Tag) → D u t → ((v : Unit) (s : Tag) → Sooner rank v s u t → D v s → Same f h v s) → Same f h u t
   agree_step u t d before =
       bf.reacts u t d
       ∙ ap₂ (λ q i. firing_of (kind_of g u.actor) t q i)
@@ -146,14 +146,14 @@ module _ (g : Graph) (given : Values) (rank : ℕ → ℕ) (grows : GrowsAlong g
       ∙ sym (bh.reacts u t d)
 
   abbrev AgreeAt : ℕ → ℕ → ℕ → Type 0
-  AgreeAt x y z = (u : Part) (t : Tag) → t.time ≡ x → t.step ≡ y → rank u.actor ≡ z → D u t → Same f h u t
+  AgreeAt x y z = (u : Unit) (t : Tag) → t.time ≡ x → t.step ≡ y → rank u.actor ≡ z → D u t → Same f h u t
 
   agree_all : (x y z : ℕ) → AgreeAt x y z
   agree_all = by_three AgreeAt (λ x y z lower u t ex ey ez d.
       agree_step u t d (λ v s sooner dv.
       lower s.time s.step (rank v.actor) (lower_at s.time s.step (rank v.actor) ex ey ez sooner) v s refl refl refl dv))
 
-  pub agree : (u : Part) (t : Tag) → D u t → firing_at (f u) t ≡ firing_at (h u) t
+  pub agree : (u : Unit) (t : Tag) → D u t → firing_at (f u) t ≡ firing_at (h u) t
   agree u t d = agree_all t.time t.step (rank u.actor) u t refl refl refl d
 
 everywhere_closed : (g : Graph) → IsClosed g Everywhere

@@ -8,7 +8,7 @@ use Rattle.pt_types.specs.declared.graph.Link.{Link}
 use Rattle.pt_types.specs.declared.graph.Wire.{Wire}
 use Rattle.pt_types.specs.declared.kind.Kind.{Kind}
 use Rattle.pt_types.specs.declared.kind.Kind.TheVariants.{Every}
-use Rattle.pt_types.specs.declared.graph.Unit.{Unit as Part}
+use Rattle.pt_types.specs.declared.graph.Unit.{Unit}
 use Rattle.pt_tags.specs.Tags.{same_tag, Before}
 use Rattle.pt_types.specs.Ports.{when, at_port}
 use Rattle.pt_semantics.specs.Lists.{IsIn, Each}
@@ -97,7 +97,7 @@ module _ (g : Graph) (level : ℕ → ℕ) (i : ℕ) (wired : IsWired g) (levels
         (λ (new : going g (wires g) (leaves_unit g (unit_of g d.task)) d.task.tag d.fired.outputs a p t ≡ Some v).
         let went = going_found g (wires g) (leaves_unit g (unit_of g d.task)) d.task.tag d.fired.outputs a p t v new in
         let e : Edge = went.edge in
-        let from : d.task.actor ≡ e.from = ap (λ (z : Part). z.actor) (same_part-true (unit_of g d.task) (source g e) went.leaves_it) in
+        let from : d.task.actor ≡ e.from = ap (λ (z : Unit). z.actor) (same_part-true (unit_of g d.task) (source g e) went.leaves_it) in
         let b = k.busy (unit_of g d.task) d.task busy in
         let up_level : e.weight.time ≡ 0 → level d.task.actor < level a = λ z. subst (λ x. level x < level a) (sym from) (subst (λ x. level e.from < level x) went.to (levels e (IsIn-append_left e (wires g) (links g) went.mem) z)) in
         let on = goes_on (length g.actors) d.task.tag.time d.task.tag.step (level d.task.actor) (level a) e.weight.time e.weight.step b.1 (small d.task.actor) up_level (wire_form g g.wires e went.mem) in
@@ -151,13 +151,13 @@ module _ (g : Graph) (level : ℕ → ℕ) (i : ℕ) (wired : IsWired g) (levels
             ⊎_elim
             (λ (here : unit_of g task ≡ u).
             let et : task ≡ other = same_some task other (sym (put_same s.busy (unit_of g task) u (Some task) here) ∙ o) in
-            subst (λ (z : Task). IsBounded g level u.actor z.tag) et (subst (λ (z : Part). IsBounded g level z.actor task.tag) here b))
+            subst (λ (z : Task). IsBounded g level u.actor z.tag) et (subst (λ (z : Unit). IsBounded g level z.actor task.tag) here b))
             (λ (there : unit_of g task ≢ u). k.busy u other (sym (put_other s.busy (unit_of g task) u (Some task) there) ∙ o))
             (cases_part (unit_of g task) u);
         claims = λ u x mem.
             ⊎_elim
             (λ (old : IsIn x (c u)). k.claims u x old)
-            (λ (new : (unit_of g task ≡ u) × (x ≡ firing_by g task)). subst (λ (z : Firing). IsBounded g level u.actor z.tag) (sym new.1) (subst (λ (z : Part). IsBounded g level z.actor task.tag) new.0 b))
+            (λ (new : (unit_of g task ≡ u) × (x ≡ firing_by g task)). subst (λ (z : Firing). IsBounded g level u.actor z.tag) (sym new.1) (subst (λ (z : Unit). IsBounded g level z.actor task.tag) new.0 b))
             (more_found c (unit_of g task) u (firing_by g task) x mem);
       }
 
@@ -254,13 +254,13 @@ outgoing_orderly g level i rows turns s wired are fits legal l link at home =
     let whole = on_time_history g level i rows wired up fits turns s legal in
     let bounded = on_time_bounded g level i rows turns s wired up (levels_are_small g level wired are) fits legal in
     let k = whole.keeps in
-    let u : Part = at_output g link.from 0 in
+    let u : Unit = at_output g link.from 0 in
     let rises : Rising (k.q u) = rising_front (k.q u) (open_list g (s.busy u)) (subst Rising (k.chains.open_is u) (whole.sound.floor.rises u)) in
     let claims = λ (x : Firing) (mem : IsIn x (k.q u)). bounded.claims u x (subst (IsIn x) (sym (k.chains.open_is u)) (IsIn-append_left x (k.q u) (open_list g (s.busy u)) mem)) in
     let lower : level link.from < level link.to = up (of_link link) (IsIn-append_right (of_link link) (wires g) (links g) (link_edge g.links l link at)) refl in
     at_closed s.closed refl k u rises claims (omega arith)
   where
-    at_closed : (b : Bool) → s.closed ≡ b → (k : Keeps g level i rows s (claims_of g turns) (λ m. all_sent m turns) (λ m. all_taken m turns)) (u : Part) → Rising (k.q (at_output g link.from 0)) → ((x : Firing) → IsIn x (k.q (at_output g link.from 0)) → IsBounded g level link.from x.tag) → level link.from ≤ level link.to → IsOrderly g level link (all_sent l turns ++ s.outbox l)
+    at_closed : (b : Bool) → s.closed ≡ b → (k : Keeps g level i rows s (claims_of g turns) (λ m. all_sent m turns) (λ m. all_taken m turns)) (u : Unit) → Rising (k.q (at_output g link.from 0)) → ((x : Firing) → IsIn x (k.q (at_output g link.from 0)) → IsBounded g level link.from x.tag) → level link.from ≤ level link.to → IsOrderly g level link (all_sent l turns ++ s.outbox l)
     at_closed false e k u rises claims le =
         let same : all_sent l turns ++ s.outbox l ≡ messages_of (k.q (at_output g link.from 0)) ++ [] = k.out.while_open e l link at home ∙ sym (append-nil (messages_of (k.q (at_output g link.from 0)))) in
         subst (IsOrderly g level link) (sym same) (ordered (k.q (at_output g link.from 0)) [] rises (inl refl), fitting g (level link.from) (level link.to) (k.q (at_output g link.from 0)) [] le claims (inl refl))
@@ -298,7 +298,7 @@ posted_orderly g level i rows turns s new ds wired are fits legal posts l link a
     let whole = posts_whole g level i rows wired up ds s new s.reading (claims_of g turns) (λ m. all_sent m turns) (λ m. all_taken m turns) (on_time_history g level i rows wired up fits turns s legal) posts in
     let bounded = on_time_bounded g level i rows turns s wired up (levels_are_small g level wired are) fits legal in
     let k = whole.keeps in
-    let u : Part = at_output g link.from 0 in
+    let u : Unit = at_output g link.from 0 in
     let rises : Rising (k.q u) = rising_front (k.q u) (open_list g (new.busy u)) (subst Rising (k.chains.open_is u) (whole.sound.floor.rises u)) in
     let claims = λ (x : Firing) (mem : IsIn x (k.q u)). bounded.claims u x (subst (IsIn x) (sym (k.chains.open_is u)) (IsIn-append_left x (k.q u) (open_list g (new.busy u)) mem)) in
     let lower : level link.from < level link.to = up (of_link link) (IsIn-append_right (of_link link) (wires g) (links g) (link_edge g.links l link at)) refl in

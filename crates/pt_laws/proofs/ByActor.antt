@@ -2,7 +2,7 @@
 use Rattle.std.proofs.Common.{◌≡◌, ℕ, ◌<◌, ◌==◌, true, List, [], ◌∷◌, Option, Some, ℤ, refl, sym, ap, ap₂, subst, ◌∙◌, ⊎_elim, eq-eqb, eqb-true}
 use Rattle.pt_types.specs.declared.graph.Graph.{Graph}
 use Rattle.pt_types.specs.declared.kind.Kind.{Kind}
-use Rattle.pt_types.specs.declared.graph.Unit.{Unit as Part}
+use Rattle.pt_types.specs.declared.graph.Unit.{Unit}
 use Rattle.pt_types.specs.Ports.{when, eight, at_port}
 use Rattle.pt_semantics.specs.Lists.{IsIn, Each}
 use Rattle.pt_types.specs.Lookups.{kind_of}
@@ -35,7 +35,7 @@ full_runs g rank (x ∷ xs) w (fires, rest) = (
   full_runs g rank xs (after_firing g w x) rest,
 )
 
-pub part_is : (g : Graph) (u : Part) (z : ActorFiring) → IsFull g z → HasPart g u z → IsPartOf g u (the_part (kind_of g u.actor) z (narrow g u z)) z
+pub part_is : (g : Graph) (u : Unit) (z : ActorFiring) → IsFull g z → HasPart g u z → IsPartOf g u (the_part (kind_of g u.actor) z (narrow g u z)) z
 part_is g u z full has = record {
   actor = has.actor;
   tag = refl;
@@ -65,7 +65,7 @@ part_is g u z full has = record {
 
 has_from_port : (g : Graph) (z : ActorFiring) (p : ℕ) (v : ℤ) → p < 8 → at_port z.inputs p ≡ Some v → HasPart g (at_input g z.actor p) z
 has_from_port g z p v lt h =
-    let u : Part = at_input g z.actor p in
+    let u : Unit = at_input g z.actor p in
     let here : any_present (narrow g u z) ≡ true =
     eight_present (λ q. when (input_group (kind_of g z.actor) q == u.group) (at_port z.inputs q)) p v lt (when-true (u.group == u.group) (at_port z.inputs p) (eq-eqb u.group u.group refl) ∙ h) in
     record {
@@ -75,7 +75,7 @@ has_from_port g z p v lt h =
     }
 
 -- where the claims are the meaning's parts they are so actor by actor
-pub by_parts : (g : Graph) (rank : ℕ → ℕ) (rows : ℕ → List Row) (claimed : Firings) (xs : List ActorFiring) → IsMeaning g rank rows xs → ((u : Part) → claimed u ≡ parts g xs u) → AreTheFirings g claimed xs
+pub by_parts : (g : Graph) (rank : ℕ → ℕ) (rows : ℕ → List Row) (claimed : Firings) (xs : List ActorFiring) → IsMeaning g rank rows xs → ((u : Unit) → claimed u ≡ parts g xs u) → AreTheFirings g claimed xs
 by_parts g rank rows claimed xs meaning same =
     let full = full_runs g rank xs _ meaning in
     record {
@@ -83,7 +83,7 @@ by_parts g rank rows claimed xs meaning same =
           let from = in_parts g u xs x (subst (IsIn x) (same u) mem) in
           (from.0, from.1, subst (λ y. IsPartOf g u y from.0) (sym from.3) (part_is g u from.0 (Each-in (IsFull g) xs full from.0 from.1) from.2));
       firings = λ z p v mem lt h.
-          let u : Part = at_input g z.actor p in
+          let u : Unit = at_input g z.actor p in
           let has = has_from_port g z p v lt h in
           (the_part (kind_of g z.actor) z (narrow g u z), subst (IsIn (the_part (kind_of g z.actor) z (narrow g u z))) (sym (same u)) (part_in g u xs z mem has), part_is g u z (Each-in (IsFull g) xs full z mem) has);
     }

@@ -5,7 +5,7 @@ use Rattle.pt_tags.specs.declared.tag.Tag.{Tag}
 use Rattle.pt_types.specs.declared.graph.Graph.{Graph}
 use Rattle.pt_types.specs.declared.graph.Link.{Link}
 use Rattle.pt_types.specs.declared.kind.Kind.TheVariants.{Sensor, Receive}
-use Rattle.pt_types.specs.declared.graph.Unit.{Unit as Part}
+use Rattle.pt_types.specs.declared.graph.Unit.{Unit}
 use Rattle.pt_tags.specs.Tags.{same_tag}
 use Rattle.pt_semantics.specs.Lists.{first_of, or_else, IsIn}
 use Rattle.pt_types.specs.Ports.{when}
@@ -54,7 +54,7 @@ sensor_bound g file a b e = ap (bound_by g a) e
 added_none : (x y : Option ℤ) → y ≡ None → or_else x y ≡ x
 added_none x y e = ap (or_else x) e ∙ or_else_none x
 
-pub came_post : (g : Graph) (i : ℕ) (rows left : ℕ → List Row) (taken : ℕ → List Message) (arr : Values) (q : Firings) (w : Part) (x : Firing) (outputs : List (Option ℤ)) → IsWired g → outputs ≡ x.outputs → Came g i rows left taken arr q → Came g i rows left taken (added arr (going g (wires g) (leaves_unit g w) x.tag outputs)) (more q w x)
+pub came_post : (g : Graph) (i : ℕ) (rows left : ℕ → List Row) (taken : ℕ → List Message) (arr : Values) (q : Firings) (w : Unit) (x : Firing) (outputs : List (Option ℤ)) → IsWired g → outputs ≡ x.outputs → Came g i rows left taken arr q → Came g i rows left taken (added arr (going g (wires g) (leaves_unit g w) x.tag outputs)) (more q w x)
 came_post g i rows left taken arr q w x outputs wired same h = record {
   entered = h.entered;
   split = h.split;

@@ -3,7 +3,7 @@ use Rattle.std.proofs.Common.{◌≡◌, ℕ, zero, suc, ◌+◌, ◌⊎◌, ◌
 use Rattle.pt_types.specs.declared.graph.Graph.{Graph}
 use Rattle.pt_tags.specs.declared.tag.Tag.{Tag}
 use Rattle.pt_tags.specs.declared.tag.Delay.{Delay}
-use Rattle.pt_types.specs.declared.graph.Unit.{Unit as Part}
+use Rattle.pt_types.specs.declared.graph.Unit.{Unit}
 use Rattle.pt_tags.specs.Tags.{Before, UpTo, plus, same_tag}
 use Rattle.pt_types.specs.Ports.{when, at_port, eight}
 use Rattle.pt_semantics.specs.Lists.{IsIn}
@@ -23,10 +23,9 @@ use Rattle.pt_laws.specs.TurnTheorems.{TurnClaims, ClaimsApart, CutClaims}
 use Rattle.pt_semantics.proofs.Words.{when-true, when_same, eight_same}
 use Rattle.pt_semantics.proofs.Lookups.{none_some, same_some, Each-in, same_part_not, cases_part, when_found, eight_found, eight_present}
 use Rattle.pt_semantics.proofs.Floor.{put_other, put_same}
-use Rattle.pt_types.specs.Limits.{most_claims}
 
 -- the taken events are those of the unit alone
-pub others_stay : (g : Graph) (waits : Values) (u v : Part) (t w : Tag) → v ≢ u → unit_inputs g (without_unit g waits u t) v w ≡ unit_inputs g waits v w
+pub others_stay : (g : Graph) (waits : Values) (u v : Unit) (t w : Tag) → v ≢ u → unit_inputs g (without_unit g waits u t) v w ≡ unit_inputs g waits v w
 others_stay g waits u v t w ne =
     eight_same
     (λ p. when (input_group (kind_of g v.actor) p == v.group) (without_unit g waits u t v.actor p w))
@@ -57,7 +56,7 @@ port_of f (suc (suc (suc (suc (suc (suc zero)))))) v h = h
 port_of f (suc (suc (suc (suc (suc (suc (suc zero))))))) v h = h
 port_of f (suc (suc (suc (suc (suc (suc (suc (suc p)))))))) v h = absurd (none_some v h)
 
-pub unit_is : (g : Graph) (waits : Values) (u : Part) (t : Tag) → HasEvent g waits u t → at_input g u.actor (first_port (unit_inputs g waits u t)) ≡ u
+pub unit_is : (g : Graph) (waits : Values) (u : Unit) (t : Tag) → HasEvent g waits u t → at_input g u.actor (first_port (unit_inputs g waits u t)) ≡ u
 unit_is g waits u t event =
     let f = first_in (unit_inputs g waits u t) event in
     let at = port_of (λ p. when (input_group (kind_of g u.actor) p == u.group) (waits u.actor p t)) (first_port (unit_inputs g waits u t)) f.0 f.1 in
@@ -73,7 +72,7 @@ later_by : (t w z : Tag) (d : Delay) → UpTo z w → Before t (plus z d) → Be
 later_by t w z d h k = omega arith
 
 -- a claim of u blocks no other unit
-pub keeps_safe : (g : Graph) (s : State) (r : ℕ) (u v : Part) (task : Task) (t : Tag) → IsSafe g s.waits s.busy r u task.tag → IsSafe g s.waits s.busy r v t → (v ≡ u → ⊥) → IsSafe g (after_claim g s u task).waits (after_claim g s u task).busy r v t
+pub keeps_safe : (g : Graph) (s : State) (r : ℕ) (u v : Unit) (task : Task) (t : Tag) → IsSafe g s.waits s.busy r u task.tag → IsSafe g s.waits s.busy r v t → (v ≡ u → ⊥) → IsSafe g (after_claim g s u task).waits (after_claim g s u task).busy r v t
 keeps_safe g s r u v task t claimed safe ne = record {
   event = ap any_present (others_stay g s.waits u v task.tag t ne) ∙ safe.event;
   least = λ w h. safe.least w (ap any_present (sym (others_stay g s.waits u v task.tag w ne)) ∙ h);
@@ -94,13 +93,13 @@ keeps_safe g s r u v task t claimed safe ne = record {
     drop_not true o z h = absurd (none_some z h)
     drop_not false o z h = h
 
-    was : (x : Part) (w : Tag) → HasEvent g (without_unit g s.waits u task.tag) x w → HasEvent g s.waits x w
+    was : (x : Unit) (w : Tag) → HasEvent g (without_unit g s.waits u task.tag) x w → HasEvent g s.waits x w
     was x w h = more_there (λ p. when (input_group (kind_of g x.actor) p == x.group) (without_unit g s.waits u task.tag x.actor p w)) (λ p. when (input_group (kind_of g x.actor) p == x.group) (s.waits x.actor p w))
         (λ p z e. let k = when_found (input_group (kind_of g x.actor) p == x.group) _ z e in
         when-true (input_group (kind_of g x.actor) p == x.group) (s.waits x.actor p w) k.0 ∙ drop_not (same_part (at_input g x.actor p) u && same_tag task.tag w) (s.waits x.actor p w) z k.1) h
 
 -- nor does it free one
-was_safe : (g : Graph) (s : State) (r : ℕ) (u v : Part) (task : Task) (t : Tag) → IsSafe g s.waits s.busy r u task.tag → IsSafe g (after_claim g s u task).waits (after_claim g s u task).busy r v t → IsSafe g s.waits s.busy r v t × (v ≡ u → ⊥)
+was_safe : (g : Graph) (s : State) (r : ℕ) (u v : Unit) (task : Task) (t : Tag) → IsSafe g s.waits s.busy r u task.tag → IsSafe g (after_claim g s u task).waits (after_claim g s u task).busy r v t → IsSafe g s.waits s.busy r v t × (v ≡ u → ⊥)
 was_safe g s r u v task t claimed safe = (
   record {
     event = ap any_present (sym (others_stay g s.waits u v task.tag t ne)) ∙ safe.event;
@@ -132,11 +131,11 @@ claims_apart g s r u v task t claimed = ((λ safe ne. keeps_safe g s r u v task 
 -- one unit is not safe at two tags
 one_tag : (c d : Candidate) → IsClaimedBefore c d → UpTo d.tag c.tag → d.unit ≡ c.unit → ⊥
 one_tag c d before up same =
-    let a : d.unit.actor ≡ c.unit.actor = ap (λ (x : Part). x.actor) same in
-    let b : d.unit.group ≡ c.unit.group = ap (λ (x : Part). x.group) same in
+    let a : d.unit.actor ≡ c.unit.actor = ap (λ (x : Unit). x.actor) same in
+    let b : d.unit.group ≡ c.unit.group = ap (λ (x : Unit). x.group) same in
     grind arith
 
-not_before : (c : Candidate) (t : Tag) (u : Part) → IsClaimedBefore c (record { unit = u; tag = t }) → NoLater t u c.tag c.unit → ⊥
+not_before : (c : Candidate) (t : Tag) (u : Unit) → IsClaimedBefore c (record { unit = u; tag = t }) → NoLater t u c.tag c.unit → ⊥
 not_before c t u h k = grind arith
 
 module _ (g : Graph) (r : ℕ) where
@@ -150,14 +149,14 @@ module _ (g : Graph) (r : ℕ) where
   unit_of_first : (s : State) (n : ℕ) (c : Candidate) → IsSafe g s.waits s.busy r c.unit c.tag → unit_of g (task_of g s n c) ≡ c.unit
   unit_of_first s n c safe = unit_is g s.waits c.unit c.tag safe.event
 
-  is_first : (c : Candidate) (cs : List Candidate) (v : Part) (w : Tag) → InClaimOrder (c ∷ cs) → IsIn (record { unit = v; tag = w }) (c ∷ cs) → NoLater c.tag c.unit w v
+  is_first : (c : Candidate) (cs : List Candidate) (v : Unit) (w : Tag) → InClaimOrder (c ∷ cs) → IsIn (record { unit = v; tag = w }) (c ∷ cs) → NoLater c.tag c.unit w v
   is_first c cs v w order mem =
       ⊎_elim
       (λ (e : record { unit = v; tag = w } ≡ c). subst (λ (z : Candidate). NoLater c.tag c.unit z.tag z.unit) (sym e) (same_is c.tag c.unit))
       (λ (m : IsIn (record { unit = v; tag = w }) cs). weaker c (record { unit = v; tag = w }) (Each-in (IsClaimedBefore c) cs order.0 (record { unit = v; tag = w }) m))
       mem
     where
-      same_is : (t : Tag) (u : Part) → NoLater t u t u
+      same_is : (t : Tag) (u : Unit) → NoLater t u t u
       same_is t u = grind arith
 
       weaker : (x y : Candidate) → IsClaimedBefore x y → NoLater x.tag x.unit y.tag y.unit
@@ -177,7 +176,7 @@ module _ (g : Graph) (r : ℕ) where
       }
 
   -- after it, the others are the candidates
-  rest_of : (s : State) (c : Candidate) (cs : List Candidate) (u : Part) (task : Task) → u ≡ c.unit → task.tag ≡ c.tag → AreCandidates g s r (c ∷ cs) → AreCandidates g (after_claim g s u task) r cs
+  rest_of : (s : State) (c : Candidate) (cs : List Candidate) (u : Unit) (task : Task) → u ≡ c.unit → task.tag ≡ c.tag → AreCandidates g s r (c ∷ cs) → AreCandidates g (after_claim g s u task) r cs
   rest_of s c cs u task eu et h =
       let claimed : IsSafe g s.waits s.busy r u task.tag = subst (λ z. IsSafe g s.waits s.busy r z task.tag) (sym eu) (subst (λ z. IsSafe g s.waits s.busy r c.unit z) (sym et) (h.safe c (inl refl))) in
       record {
@@ -192,7 +191,7 @@ module _ (g : Graph) (r : ℕ) where
       }
 
   -- and their tasks are the same
-  tasks_stay : (s : State) (u : Part) (task : Task) (n : ℕ) (cs : List Candidate) → ((d : Candidate) → IsIn d cs → d.unit ≢ u) → tasks_of g (after_claim g s u task) n cs ≡ tasks_of g s n cs
+  tasks_stay : (s : State) (u : Unit) (task : Task) (n : ℕ) (cs : List Candidate) → ((d : Candidate) → IsIn d cs → d.unit ≢ u) → tasks_of g (after_claim g s u task) n cs ≡ tasks_of g s n cs
   tasks_stay s u task n [] ne = refl
   tasks_stay s u task n (c ∷ cs) ne =
       ap₂ (λ (inputs : List (Option ℤ)) rest. record { number = n; actor = c.unit.actor; tag = c.tag; inputs = inputs; state = s.states c.unit.actor } ∷ rest)
@@ -204,7 +203,7 @@ module _ (g : Graph) (r : ℕ) where
   in_take (suc k) d [] m = absurd m
   in_take (suc k) d (c ∷ cs) m = ⊎_elim (λ (e : d ≡ c). inl e) (λ (n : IsIn d (take k cs)). inr (in_take k d cs n)) m
 
-  front_stays : (s : State) (c : Candidate) (cs : List Candidate) (u : Part) (task : Task) (k : ℕ) → u ≡ c.unit → AreCandidates g s r (c ∷ cs) → tasks_of g (after_claim g s u task) (suc s.claims) (take k cs) ≡ tasks_of g s (suc s.claims) (take k cs)
+  front_stays : (s : State) (c : Candidate) (cs : List Candidate) (u : Unit) (task : Task) (k : ℕ) → u ≡ c.unit → AreCandidates g s r (c ∷ cs) → tasks_of g (after_claim g s u task) (suc s.claims) (take k cs) ≡ tasks_of g s (suc s.claims) (take k cs)
   front_stays s c cs u task k eu h = tasks_stay s u task (suc s.claims) (take k cs) (λ d m e. apart s c d cs h (in_take k d cs m) (e ∙ eu))
 
   claims_of_front : (cs : List Candidate) (s : State) → AreCandidates g s r cs → (k : ℕ) → Claims g r s (tasks_of g s s.claims (take k cs)) (after_claims g s (tasks_of g s s.claims (take k cs)))
@@ -238,7 +237,7 @@ module _ (g : Graph) (r : ℕ) where
   task_is s c task e next =
       let eu : unit_of g task ≡ c.unit = ap (λ (z : Candidate). z.unit) e in
       let et : task.tag ≡ c.tag = ap (λ (z : Candidate). z.tag) e in
-      let ea : task.actor ≡ c.unit.actor = ap (λ (z : Part). z.actor) eu in
+      let ea : task.actor ≡ c.unit.actor = ap (λ (z : Unit). z.actor) eu in
       let ei : task.inputs ≡ unit_inputs g s.waits c.unit c.tag = next.inputs ∙ ap₂ (λ z w. unit_inputs g s.waits z w) eu et in
       let es : task.state ≡ s.states c.unit.actor = next.state ∙ ap s.states ea in
       let en : task.number ≡ s.claims = next.number in
@@ -294,7 +293,7 @@ cut_claims g s r most k cs h one le all cut = record {
       ⊎_elim
       (λ (e : drop k cs ≡ []). inl (nothing e))
       (λ (l : k ≤ length (take k cs)).
-      inr (⊎_elim (λ (m : k ≡ most). inl (omega (arith, many))) (λ (m : k + s.claims ≡ most_claims). inr (omega (arith, many, after))) cut))
+      inr (⊎_elim (λ (m : k ≡ most). inl (omega (arith, many))) (λ (m : k + s.claims ≡ g.claims). inr (omega (arith, many, after))) cut))
       (take_or_all k cs);
 }
   where
@@ -310,8 +309,8 @@ cut_claims g s r most k cs h one le all cut = record {
     nothing : drop k cs ≡ [] → NothingSafe g (after_claims g s (tasks_of g s s.claims (take k cs))).waits (after_claims g s (tasks_of g s s.claims (take k cs))).busy r
     nothing e u t safe = subst (λ (z : List Candidate). IsIn {X = Candidate} (record { unit = u; tag = t }) z) e (((turn_claims g s r cs h).left k).all u t safe)
 
-    by_cut : (k : ℕ) (cs : List Candidate) → AreCandidates g s r cs → (k ≡ most) ⊎ (k + s.claims ≡ most_claims) → tasks_of g s s.claims (take k cs) ≡ [] → NothingSafe g (after_claims g s (tasks_of g s s.claims (take k cs))).waits (after_claims g s (tasks_of g s s.claims (take k cs))).busy r ⊎ (most_claims ≤ s.claims)
-    by_cut zero cs h cut none = ⊎_elim (λ (m : 0 ≡ most). absurd (omega arith)) (λ (m : 0 + s.claims ≡ most_claims). inr (omega arith)) cut
+    by_cut : (k : ℕ) (cs : List Candidate) → AreCandidates g s r cs → (k ≡ most) ⊎ (k + s.claims ≡ g.claims) → tasks_of g s s.claims (take k cs) ≡ [] → NothingSafe g (after_claims g s (tasks_of g s s.claims (take k cs))).waits (after_claims g s (tasks_of g s s.claims (take k cs))).busy r ⊎ (g.claims ≤ s.claims)
+    by_cut zero cs h cut none = ⊎_elim (λ (m : 0 ≡ most). absurd (omega arith)) (λ (m : 0 + s.claims ≡ g.claims). inr (omega arith)) cut
     by_cut (suc k) [] h cut none = inl (λ u t safe. absurd (h.all u t safe))
     by_cut (suc k) (c ∷ cs) h cut none = absurd (never (task_of g s s.claims c) (tasks_of g s (suc s.claims) (take k cs)) none)
       where

@@ -6,7 +6,7 @@ use Rattle.pt_types.specs.declared.graph.Actor.{Actor}
 use Rattle.pt_tags.specs.declared.tag.Tag.{Tag}
 use Rattle.pt_types.specs.declared.graph.Graph.{Graph}
 use Rattle.pt_types.specs.declared.graph.Link.{Link}
-use Rattle.pt_types.specs.declared.graph.Unit.{Unit as Part}
+use Rattle.pt_types.specs.declared.graph.Unit.{Unit}
 use Rattle.pt_types.specs.declared.kind.Kind.{Kind}
 use Rattle.pt_types.specs.declared.kind.Kind.TheVariants.{Sensor, Receive, Every}
 use Rattle.pt_types.specs.declared.rows.Row.{Row}
@@ -48,10 +48,10 @@ use Rattle.pt_laws.proofs.Sums.{sum_same, sum_nothing, sum_one, sum_le, sum_lt}
 
 -- counting
 
-more_here : (c : Firings) (u : Part) (x : Firing) → length (more c u x u) ≡ suc (length (c u))
+more_here : (c : Firings) (u : Unit) (x : Firing) → length (more c u x u) ≡ suc (length (c u))
 more_here c u x = ap length (cond-true (same_part u u) (c u ++ x ∷ []) (c u) (self u)) ∙ length-append (c u) (x ∷ []) ∙ plus_one (length (c u))
   where
-    self : (u : Part) → same_part u u ≡ true
+    self : (u : Unit) → same_part u u ≡ true
     self u = and_from (u.actor == u.actor) (u.group == u.group) (eq_self u.actor) (eq_self u.group)
       where
         eq_self : (n : ℕ) → (n == n) ≡ true
@@ -60,7 +60,7 @@ more_here c u x = ap length (cond-true (same_part u u) (c u ++ x ∷ []) (c u) (
     plus_one : (n : ℕ) → n + 1 ≡ suc n
     plus_one n = omega arith
 
-more_there : (c : Firings) (u v : Part) (x : Firing) → (u ≡ v → ⊥) → length (more c u x v) ≡ length (c v)
+more_there : (c : Firings) (u v : Unit) (x : Firing) → (u ≡ v → ⊥) → length (more c u x v) ≡ length (c v)
 more_there c u v x other =
     ⊎_elim
     (λ (same : same_part u v ≡ true). absurd (other (same_part-true u v same)))
@@ -68,15 +68,15 @@ more_there c u v x other =
     (cases_Bool (same_part u v))
 
 -- one claim more of a unit of platform i
-count_more : (g : Graph) (i : ℕ) (c : Firings) (u : Part) (x : Firing) → platform_of g u.actor ≡ i → u.actor < length g.actors → u.group < groups (kind_of g u.actor) → unit_firings g i (more c u x) ≡ suc (unit_firings g i c)
+count_more : (g : Graph) (i : ℕ) (c : Firings) (u : Unit) (x : Firing) → platform_of g u.actor ≡ i → u.actor < length g.actors → u.group < groups (kind_of g u.actor) → unit_firings g i (more c u x) ≡ suc (unit_firings g i c)
 count_more g i c u x home actor group =
     sum_one (λ a. if platform_of g a == i then actor_firings g c a else 0) (λ a. if platform_of g a == i then actor_firings g (more c u x) a else 0) (length g.actors) u.actor
     (λ a other. ap (λ n. if platform_of g a == i then n else 0) (sum_same (λ k. length (more c u x (record { actor = a; group = k }))) (λ k. length (c (record { actor = a; group = k }))) (groups (kind_of g a))
-    (λ k l. more_there c u (record { actor = a; group = k }) x (λ e. other (sym (ap (λ (v : Part). v.actor) e))))))
+    (λ k l. more_there c u (record { actor = a; group = k }) x (λ e. other (sym (ap (λ (v : Unit). v.actor) e))))))
     actor
     (cond-true (platform_of g u.actor == i) (actor_firings g (more c u x) u.actor) 0 here
     ∙ sum_one (λ k. length (c (record { actor = u.actor; group = k }))) (λ k. length (more c u x (record { actor = u.actor; group = k }))) (groups (kind_of g u.actor)) u.group
-    (λ k other. more_there c u (record { actor = u.actor; group = k }) x (λ e. other (sym (ap (λ (v : Part). v.group) e))))
+    (λ k other. more_there c u (record { actor = u.actor; group = k }) x (λ e. other (sym (ap (λ (v : Unit). v.group) e))))
     group (more_here c u x)
     ∙ ap suc (sym (cond-true (platform_of g u.actor == i) (actor_firings g c u.actor) 0 here)))
   where
@@ -86,14 +86,14 @@ count_more g i c u x home actor group =
         is_true : (m n : ℕ) → m ≡ n → (m == n) ≡ true
         is_true m n e = grind (arith, nat_tests)
 
-pub count_le : (g : Graph) (i : ℕ) (f h : Firings) → ((u : Part) → length (f u) ≤ length (h u)) → unit_firings g i f ≤ unit_firings g i h
+pub count_le : (g : Graph) (i : ℕ) (f h : Firings) → ((u : Unit) → length (f u) ≤ length (h u)) → unit_firings g i f ≤ unit_firings g i h
 count_le g i f h le = sum_le _ _ (length g.actors) (λ a. by_home (platform_of g a == i) a)
   where
     by_home : (b : Bool) (a : ℕ) → (if b then actor_firings g f a else 0) ≤ (if b then actor_firings g h a else 0)
     by_home true a = sum_le _ _ (groups (kind_of g a)) (λ k. le (record { actor = a; group = k }))
     by_home false a = omega arith
 
-pub count_lt : (g : Graph) (f h : Firings) (u : Part) → ((v : Part) → length (f v) ≤ length (h v)) → u.actor < length g.actors → u.group < groups (kind_of g u.actor) → length (f u) < length (h u) → unit_firings g (platform_of g u.actor) f < unit_firings g (platform_of g u.actor) h
+pub count_lt : (g : Graph) (f h : Firings) (u : Unit) → ((v : Unit) → length (f v) ≤ length (h v)) → u.actor < length g.actors → u.group < groups (kind_of g u.actor) → length (f u) < length (h u) → unit_firings g (platform_of g u.actor) f < unit_firings g (platform_of g u.actor) h
 count_lt g f h u le actor group less =
     sum_lt _ _ (length g.actors) u.actor (λ a. by_home (platform_of g a == platform_of g u.actor) a) actor
     (here (platform_of g u.actor == platform_of g u.actor) (eq_self (platform_of g u.actor)))
@@ -197,7 +197,7 @@ module _ (g : Graph) (i : ℕ) (wired : IsWired g) where
             count_more g i c (unit_of g task) (firing_by g task)
             (k.home.waits task.actor at.port task.tag at.value at.waits_there).0
             there.actor
-            (subst (λ (u : Part). u.group < groups (kind_of g task.actor)) at.unit there.group)
+            (subst (λ (u : Unit). u.group < groups (kind_of g task.actor)) at.unit there.group)
             ∙ ap suc k.count;
         inside = λ a p t v found. k.inside a p t v (without_found g s.waits (unit_of g task) task.tag a p t v found).0;
       }

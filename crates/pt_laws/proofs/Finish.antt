@@ -5,7 +5,7 @@ use Rattle.pt_types.specs.declared.graph.Graph.{Graph}
 use Rattle.pt_types.specs.declared.graph.Link.{Link}
 use Rattle.pt_types.specs.declared.kind.Kind.{Kind}
 use Rattle.pt_types.specs.declared.kind.Kind.TheVariants.{Sensor, Receive, Every}
-use Rattle.pt_types.specs.declared.graph.Unit.{Unit as Part}
+use Rattle.pt_types.specs.declared.graph.Unit.{Unit}
 use Rattle.pt_tags.specs.declared.tag.Tag.{Tag}
 use Rattle.pt_tags.specs.Tags.{same_tag, plus, zero_delay}
 use Rattle.pt_semantics.specs.Lists.{first_of, or_else, IsIn, Each}
@@ -151,15 +151,15 @@ receive_sensor : (file : List ℕ) (b : ℕ) → Receive ≡ Sensor file b → �
 receive_sensor file b e = cc
 
 -- where D holds nothing that is open leads on, and no row is left
-pub record Unfed (g : Graph) (D : Part → Tag → Type 0) (s : State) : Type 0 where
+pub record Unfed (g : Graph) (D : Unit → Tag → Type 0) (s : State) : Type 0 where
   pub busy : (e : Edge) (task : Task) → IsIn e (edges g) → s.busy (source g e) ≡ Some task → D (target g e) (plus task.tag e.weight) → ⊥
   pub left : (a : ℕ) (row : Row) → IsIn row (s.left a) → D (at_input g a 0) (at_time row.time) → ⊥
 
-pub unfed : (g : Graph) (D : Part → Tag → Type 0) (s : State) → IsSettled g D s → Unfed g D s
+pub unfed : (g : Graph) (D : Unit → Tag → Type 0) (s : State) → IsSettled g D s → Unfed g D s
 unfed g D s k = record { busy = k.busy; left = k.left }
 
 -- two states of affairs join: what was claimed so far, by histories that are settled on D
-module _ (g : Graph) (level : ℕ → ℕ) (rows : ℕ → List Row) (histories : ℕ → List Turn) (ends : ℕ → State) (wired : IsWired g) (fits : FitRows g rows) (D : Part → Tag → Type 0) (closed : IsClosed g D) (here : (a : ℕ) → Whole g level (platform_of g a) rows (ends (platform_of g a)) (ends (platform_of g a)).reading (claims_of g (histories (platform_of g a))) (λ l. all_sent l (histories (platform_of g a))) (λ l. all_taken l (histories (platform_of g a)))) (settled : (a : ℕ) → Unfed g D (ends (platform_of g a))) (caught : AreCaughtUp g D histories ends) where
+module _ (g : Graph) (level : ℕ → ℕ) (rows : ℕ → List Row) (histories : ℕ → List Turn) (ends : ℕ → State) (wired : IsWired g) (fits : FitRows g rows) (D : Unit → Tag → Type 0) (closed : IsClosed g D) (here : (a : ℕ) → Whole g level (platform_of g a) rows (ends (platform_of g a)) (ends (platform_of g a)).reading (claims_of g (histories (platform_of g a))) (λ l. all_sent l (histories (platform_of g a))) (λ l. all_taken l (histories (platform_of g a)))) (settled : (a : ℕ) → Unfed g D (ends (platform_of g a))) (caught : AreCaughtUp g D histories ends) where
   abbrev f : Firings
   f u = all_claims g histories u
 
@@ -340,7 +340,7 @@ module _ (g : Graph) (level : ℕ → ℕ) (rows : ℕ → List Row) (histories 
   came_is a p t d (sensor file b kind) = came_sensor file a b p t d kind
   came_is a p t d (receiver l link at to) = came_receiver a p t l link d at to
 
-  reacts_none : ((a p : ℕ) (t : Tag) → p < 8 → D (at_input g a p) t → (ends (platform_of g a)).waits a p t ≡ None) → (u : Part) (t : Tag) → D u t → firing_at (f u) t ≡ None → reaction g (opening g rows) f u t ≡ None
+  reacts_none : ((a p : ℕ) (t : Tag) → p < 8 → D (at_input g a p) t → (ends (platform_of g a)).waits a p t ≡ None) → (u : Unit) (t : Tag) → D u t → firing_at (f u) t ≡ None → reaction g (opening g rows) f u t ≡ None
   reacts_none nothing_waits u t d e =
       let k = (here u.actor).keeps in
       let inputs : unit_inputs g (comes g (opening g rows) f) u t ≡ eight nothing = eight_below _ nothing (λ p lt.
@@ -352,10 +352,10 @@ module _ (g : Graph) (level : ℕ → ℕ) (rows : ℕ → List Row) (histories 
       ∙ when_none ℤ (input_group (kind_of g u.actor) p == u.group)) in
       ap (λ i. firing_of (kind_of g u.actor) t (state_before (first_state (kind_of g u.actor)) (f u) t) i) inputs
     where
-      unit_is : (u : Part) (p : ℕ) → input_group (kind_of g u.actor) p ≡ u.group → at_input g u.actor p ≡ u
+      unit_is : (u : Unit) (p : ℕ) → input_group (kind_of g u.actor) p ≡ u.group → at_input g u.actor p ≡ u
       unit_is u p eg = λ i. record { actor = u.actor; group = eg i }
 
-  reacts_some : (u : Part) (t : Tag) (x : Firing) → D u t → firing_at (f u) t ≡ Some x → Some x ≡ reaction g (opening g rows) f u t
+  reacts_some : (u : Unit) (t : Tag) (x : Firing) → D u t → firing_at (f u) t ≡ Some x → Some x ≡ reaction g (opening g rows) f u t
   reacts_some u t x d e =
       let w = here u.actor in
       let k = w.keeps in
@@ -368,10 +368,10 @@ module _ (g : Graph) (level : ℕ → ℕ) (rows : ℕ → List Row) (histories 
       ∙ came_is u.actor p t (subst (λ z. D z t) (sym unit) d) (source_kind g u.actor))) in
       firing_is (kind_of g u.actor) u.group (state_before (first_state (kind_of g u.actor)) (f u) t) t x (unit_inputs g (comes g (opening g rows) f) u t) is.0 is.1 inputs
     where
-      unit_is : (u : Part) (p : ℕ) → input_group (kind_of g u.actor) p ≡ u.group → at_input g u.actor p ≡ u
+      unit_is : (u : Unit) (p : ℕ) → input_group (kind_of g u.actor) p ≡ u.group → at_input g u.actor p ≡ u
       unit_is u p eg = λ i. record { actor = u.actor; group = eg i }
 
-  reacts_is : ((a p : ℕ) (t : Tag) → p < 8 → D (at_input g a p) t → (ends (platform_of g a)).waits a p t ≡ None) → (u : Part) (t : Tag) → D u t → (o : Option Firing) → firing_at (f u) t ≡ o → firing_at (f u) t ≡ reaction g (opening g rows) f u t
+  reacts_is : ((a p : ℕ) (t : Tag) → p < 8 → D (at_input g a p) t → (ends (platform_of g a)).waits a p t ≡ None) → (u : Unit) (t : Tag) → D u t → (o : Option Firing) → firing_at (f u) t ≡ o → firing_at (f u) t ≡ reaction g (opening g rows) f u t
   reacts_is nothing_waits u t d None e = e ∙ sym (reacts_none nothing_waits u t d e)
   reacts_is nothing_waits u t d (Some x) e = e ∙ reacts_some u t x d e
 

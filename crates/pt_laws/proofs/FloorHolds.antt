@@ -3,7 +3,7 @@ use Rattle.std.proofs.Common.{◌≡◌, ℕ, ◌<◌, ◌≤◌, ◌==◌, Bool
 use Rattle.std.proofs.lemmas.Bool.{cases_Bool, cond-true, cond-false}
 use Rattle.std.specs.List.{cons_option}
 use Rattle.pt_types.specs.declared.graph.Graph.{Graph}
-use Rattle.pt_types.specs.declared.graph.Unit.{Unit as Part}
+use Rattle.pt_types.specs.declared.graph.Unit.{Unit}
 use Rattle.pt_semantics.specs.Lists.{IsIn}
 use Rattle.pt_types.specs.Lookups.{platform_of}
 use Rattle.pt_semantics.specs.Behaviours.{Firing, Firings}
@@ -44,7 +44,7 @@ pub record Sound (g : Graph) (s : State) (up : Option ℕ) (c : Firings) : Type 
   pub floor : Floor g s c
   pub rest : Rest g s up
 
-pub more_then : (c : Firings) (g : Graph) (u : Part) (task : Task) (ys : List Firing) → more c (unit_of g task) (firing_by g task) u ++ ys ≡ c u ++ cons_option (of_unit g u task) ys
+pub more_then : (c : Firings) (g : Graph) (u : Unit) (task : Task) (ys : List Firing) → more c (unit_of g task) (firing_by g task) u ++ ys ≡ c u ++ cons_option (of_unit g u task) ys
 more_then c g u task ys =
     ⊎_elim
     (λ (h : same_part (unit_of g task) u ≡ true).

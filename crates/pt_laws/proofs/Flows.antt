@@ -4,7 +4,7 @@ use Rattle.std.proofs.lemmas.Bool.{cases_Bool, and_parts, cond-true, cond-false}
 use Rattle.std.specs.List.{cons_option}
 use Rattle.pt_tags.specs.declared.tag.Tag.{Tag}
 use Rattle.pt_types.specs.declared.graph.Graph.{Graph}
-use Rattle.pt_types.specs.declared.graph.Unit.{Unit as Part}
+use Rattle.pt_types.specs.declared.graph.Unit.{Unit}
 use Rattle.pt_tags.specs.Tags.{same_tag, plus}
 use Rattle.pt_semantics.specs.Lists.{first_of, or_else, IsIn}
 use Rattle.pt_types.specs.Ports.{when, at_port}
@@ -71,13 +71,13 @@ flows_append g es once q ys a p t =
     ∙ when_or_else (nat_lt t.time (suc g.until)) _ _
 
 -- the firing x of unit w alone
-abbrev pub single : Part → Firing → Firings
+abbrev pub single : Unit → Firing → Firings
 single w x u = cons_option (when (same_part w u) (Some x)) []
 
-pub more_single : (c : Firings) (w : Part) (x : Firing) → ◌≡◌ {A = Firings} (more c w x) (λ u. c u ++ single w x u)
+pub more_single : (c : Firings) (w : Unit) (x : Firing) → ◌≡◌ {A = Firings} (more c w x) (λ u. c u ++ single w x u)
 more_single c w x = λ i u. at u i
   where
-    at : (u : Part) → more c w x u ≡ c u ++ single w x u
+    at : (u : Unit) → more c w x u ≡ c u ++ single w x u
     at u =
         ⊎_elim
         (λ (h : same_part w u ≡ true).
@@ -90,18 +90,18 @@ single_comes : (b c : Bool) (x : Firing) (k : Firing → Option ℤ) → first_o
 single_comes true c x k = or_else_none (when c (k x))
 single_comes false c x k = refl
 
-single_along : (g : Graph) (w : Part) (x : Firing) (e : Edge) (t : Tag) → comes_along (single w x) g e t ≡ when (leaves_unit g w e && same_tag (plus x.tag e.weight) t) (at_port x.outputs e.output)
+single_along : (g : Graph) (w : Unit) (x : Firing) (e : Edge) (t : Tag) → comes_along (single w x) g e t ≡ when (leaves_unit g w e && same_tag (plus x.tag e.weight) t) (at_port x.outputs e.output)
 single_along g w x e t = at (same_part w (source g e))
   where
     at : (b : Bool) → first_of (λ (y : Firing). when (same_tag (plus y.tag e.weight) t) (at_port y.outputs e.output)) (cons_option (when b (Some x)) []) ≡ when (b && same_tag (plus x.tag e.weight) t) (at_port x.outputs e.output)
     at true = or_else_none (when (same_tag (plus x.tag e.weight) t) (at_port x.outputs e.output))
     at false = refl
 
-pub flows_single : (g : Graph) (es : List Edge) (w : Part) (x : Firing) (a p : ℕ) (t : Tag) → flows g es (single w x) a p t ≡ going g es (leaves_unit g w) x.tag x.outputs a p t
+pub flows_single : (g : Graph) (es : List Edge) (w : Unit) (x : Firing) (a p : ℕ) (t : Tag) → flows g es (single w x) a p t ≡ going g es (leaves_unit g w) x.tag x.outputs a p t
 flows_single g es w x a p t =
     ap (when (nat_lt t.time (suc g.until))) (first_of_same _ _ es (λ e m. ap (when (e.to == a && e.input == p)) (single_along g w x e t)))
 
-pub flows_more : (g : Graph) (es : List Edge) → OneEdge es → (q : Firings) (w : Part) (x : Firing) (a p : ℕ) (t : Tag) → flows g es (more q w x) a p t ≡ or_else (flows g es q a p t) (going g es (leaves_unit g w) x.tag x.outputs a p t)
+pub flows_more : (g : Graph) (es : List Edge) → OneEdge es → (q : Firings) (w : Unit) (x : Firing) (a p : ℕ) (t : Tag) → flows g es (more q w x) a p t ≡ or_else (flows g es q a p t) (going g es (leaves_unit g w) x.tag x.outputs a p t)
 flows_more g es once q w x a p t =
     ap (λ (z : Firings). flows g es z a p t) (more_single q w x)
     ∙ flows_append g es once q (single w x) a p t

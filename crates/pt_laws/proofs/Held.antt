@@ -3,7 +3,7 @@ use Rattle.std.proofs.Common.{◌≡◌, ℕ, ◌<◌, ◌==◌, ◌≢◌, Bool
 use Rattle.std.proofs.lemmas.Bool.{and_left, and_right}
 use Rattle.pt_tags.specs.declared.tag.Tag.{Tag}
 use Rattle.pt_types.specs.declared.graph.Graph.{Graph}
-use Rattle.pt_types.specs.declared.graph.Unit.{Unit as Part}
+use Rattle.pt_types.specs.declared.graph.Unit.{Unit}
 use Rattle.pt_tags.specs.Tags.{Before, same_tag, plus}
 use Rattle.pt_semantics.specs.Lists.{or_else, IsIn}
 use Rattle.pt_types.specs.Ports.{when, at_port}
@@ -58,7 +58,7 @@ when_off false x h = refl
 not-is : (b : Bool) → b ≡ false → not b ≡ true
 not-is b e = ap not e
 
-pub held_claim : (g : Graph) (waits : Values) (c : Firings) (arr : Values) (w : Part) (task : Task) → Held g waits c arr → ((x : Firing) → IsIn x (c w) → Before x.tag task.tag) → task.inputs ≡ unit_inputs g waits w task.tag → Held g (without_unit g waits w task.tag) (more c w (firing_by g task)) arr
+pub held_claim : (g : Graph) (waits : Values) (c : Firings) (arr : Values) (w : Unit) (task : Task) → Held g waits c arr → ((x : Firing) → IsIn x (c w) → Before x.tag task.tag) → task.inputs ≡ unit_inputs g waits w task.tag → Held g (without_unit g waits w task.tag) (more c w (firing_by g task)) arr
 held_claim g waits c arr w task h below inputs = record {
   fresh = λ a p t lt e.
       ⊎_elim
@@ -92,8 +92,8 @@ held_claim g waits c arr w task h below inputs = record {
     claimed_now a p t x lt here z =
         let is = on (same_tag task.tag t) x z in
         let et : task.tag ≡ t = same_tag-true task.tag t is.0 in
-        let actor : w.actor ≡ a = ap (λ (v : Part). v.actor) here in
-        let group : w.group ≡ input_group (kind_of g a) p = ap (λ (v : Part). v.group) here in
+        let actor : w.actor ≡ a = ap (λ (v : Unit). v.actor) here in
+        let group : w.group ≡ input_group (kind_of g a) p = ap (λ (v : Unit). v.group) here in
         let none : firing_at (c w) task.tag ≡ None = firing_at_absent (c w) task.tag (λ y m ey. Before-irrefl task.tag (subst (λ v. Before v task.tag) ey (below y m))) in
         let none_here : firing_at (c (at_input g a p)) t ≡ None = subst (λ v. firing_at (c v) t ≡ None) here (subst (λ v. firing_at (c w) v ≡ None) et none) in
         let kinds : input_group (kind_of g w.actor) p ≡ w.group = ap (λ b. input_group (kind_of g b) p) actor ∙ sym group in

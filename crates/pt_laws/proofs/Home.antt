@@ -6,7 +6,7 @@ use Rattle.pt_types.specs.declared.graph.Link.{Link}
 use Rattle.pt_tags.specs.declared.tag.Tag.{Tag}
 use Rattle.pt_types.specs.declared.kind.Kind.{Kind}
 use Rattle.pt_types.specs.declared.kind.Kind.TheVariants.{Every}
-use Rattle.pt_types.specs.declared.graph.Unit.{Unit as Part}
+use Rattle.pt_types.specs.declared.graph.Unit.{Unit}
 use Rattle.pt_tags.specs.Tags.{same_tag}
 use Rattle.pt_types.specs.Ports.{when}
 use Rattle.pt_semantics.specs.Lists.{IsIn}
@@ -45,9 +45,9 @@ IsPlace g i a p t = (platform_of g a ≡ i) × (p < 8) × (t.time ≤ g.until)
 
 pub record Home (g : Graph) (i : ℕ) (s : State) (c : Firings) : Type 0 where
   pub waits : (a p : ℕ) (t : Tag) (v : ℤ) → s.waits a p t ≡ Some v → IsPlace g i a p t
-  pub busy : (u : Part) (task : Task) → s.busy u ≡ Some task → platform_of g u.actor ≡ i
+  pub busy : (u : Unit) (task : Task) → s.busy u ≡ Some task → platform_of g u.actor ≡ i
   pub left : (a : ℕ) (row : Row) → IsIn row (s.left a) → platform_of g a ≡ i
-  pub claims : (u : Part) (x : Firing) → IsIn x (c u) → platform_of g u.actor ≡ i
+  pub claims : (u : Unit) (x : Firing) → IsIn x (c u) → platform_of g u.actor ≡ i
 
 of_start : (g : Graph) (a : ℕ) (k : Kind) (t : Tag) (v : ℤ) → start_at g k t ≡ Some v → t.time ≤ g.until
 of_start g a (Every start period) t v h =
@@ -81,7 +81,7 @@ module _ (g : Graph) (i : ℕ) (wired : IsWired g) where
         (λ (new : going g (wires g) (leaves_unit g (unit_of g d.task)) d.task.tag d.fired.outputs a p t ≡ Some v).
         let went = going_found g (wires g) (leaves_unit g (unit_of g d.task)) d.task.tag d.fired.outputs a p t v new in
         let e : Edge = went.edge in
-        let from : d.task.actor ≡ e.from = ap (λ (z : Part). z.actor) (same_part-true (unit_of g d.task) (source g e) went.leaves_it) in (
+        let from : d.task.actor ≡ e.from = ap (λ (z : Unit). z.actor) (same_part-true (unit_of g d.task) (source g e) went.leaves_it) in (
           ap (platform_of g) (sym went.to) ∙ sym (wired.at_home e went.mem) ∙ ap (platform_of g) (sym from) ∙ k.busy (unit_of g d.task) d.task busy,
           subst (λ n. n < 8) went.input (wired.ports e (IsIn-append_left e (wires g) (links g) went.mem)),
           went.within,
@@ -140,7 +140,7 @@ module _ (g : Graph) (i : ℕ) (wired : IsWired g) where
         ⊎_elim
         (λ (here : unit_of g task ≡ u).
         let at = event_found g s.waits (unit_of g task) task.tag next.safe.event in
-        subst (λ (z : Part). platform_of g z.actor ≡ i) here (k.waits task.actor at.port task.tag at.value at.waits_there).0)
+        subst (λ (z : Unit). platform_of g z.actor ≡ i) here (k.waits task.actor at.port task.tag at.value at.waits_there).0)
         (λ (there : unit_of g task ≢ u). k.busy u other (sym (put_other s.busy (unit_of g task) u (Some task) there) ∙ b))
         (cases_part (unit_of g task) u);
     left = k.left;
@@ -149,7 +149,7 @@ module _ (g : Graph) (i : ℕ) (wired : IsWired g) where
         (λ (old : IsIn x (c u)). k.claims u x old)
         (λ (new : (unit_of g task ≡ u) × (x ≡ firing_by g task)).
         let at = event_found g s.waits (unit_of g task) task.tag next.safe.event in
-        subst (λ (z : Part). platform_of g z.actor ≡ i) new.0 (k.waits task.actor at.port task.tag at.value at.waits_there).0)
+        subst (λ (z : Unit). platform_of g z.actor ≡ i) new.0 (k.waits task.actor at.port task.tag at.value at.waits_there).0)
         (more_found c (unit_of g task) u (firing_by g task) x mem);
   }
 

@@ -4,7 +4,7 @@ use Rattle.std.proofs.lemmas.Bool.{and_parts, false≢true}
 use Rattle.std.specs.List.{flat_map, range_with_len}
 use Rattle.pt_types.specs.declared.graph.Graph.{Graph}
 use Rattle.pt_tags.specs.declared.tag.Tag.{Tag}
-use Rattle.pt_types.specs.declared.graph.Unit.{Unit as Part}
+use Rattle.pt_types.specs.declared.graph.Unit.{Unit}
 use Rattle.pt_semantics.specs.Lists.{IsIn, or_else}
 use Rattle.pt_types.specs.Ports.{when}
 use Rattle.pt_semantics.specs.Meaning.{Values, row_at, added}
@@ -25,15 +25,14 @@ use Rattle.pt_semantics.proofs.Lookups.{or_else_none, when_none}
 use Rattle.pt_laws.proofs.Rows.{due_split}
 use Rattle.pt_laws.proofs.Progress.{nothing_of, in_range, sensor_in}
 use Rattle.pt_laws.proofs.Raise.{nothing_in}
-use Rattle.pt_types.specs.Limits.{most_claims}
 
 -- what a quiet turn does: it has a later reading, and may close
 pub record Rested (g : Graph) (i : ℕ) (s : State) (first last : ℕ) (new : State) : Type 0 where
   pub rises : (p : ℕ) → s.reading ≡ Some p → p ≤ first
   pub span : first ≤ last
   pub none_due : (a : ℕ) → due last (s.left a) ≡ []
-  pub greedy : NothingSafe g (raised s last).waits (raised s last).busy last ⊎ (most_claims ≤ s.claims)
-  pub few : s.claims ≤ most_claims
+  pub greedy : NothingSafe g (raised s last).waits (raised s last).busy last ⊎ (g.claims ≤ s.claims)
+  pub few : s.claims ≤ g.claims
   pub how : ((new ≡ raised s last) × (CanClose g i (raised s last) last → ⊥)) ⊎ ((new ≡ shut g i (raised s last)) × CanClose g i (raised s last) last)
 
 map_nil : (a : ℕ) (xs : List Row) → map {B = RowAt} (λ (x : Row). record { sensor = a; row = x }) xs ≡ [] → xs ≡ []
@@ -79,9 +78,9 @@ rested g level i s new x fit quiet is = record {
   greedy =
       ⊎_elim
       (λ (l : false ≡ true). absurd (false≢true l))
-      (λ (o : NothingSafe g is.ready.waits is.ready.busy x.last ⊎ (most_claims ≤ s.claims)). ⊎_elim (λ (n : NothingSafe g is.ready.waits is.ready.busy x.last). inl (subst (λ z. NothingSafe g z.waits z.busy x.last) ready n)) (λ (m : most_claims ≤ s.claims). inr m) o)
+      (λ (o : NothingSafe g is.ready.waits is.ready.busy x.last ⊎ (g.claims ≤ s.claims)). ⊎_elim (λ (n : NothingSafe g is.ready.waits is.ready.busy x.last). inl (subst (λ z. NothingSafe g z.waits z.busy x.last) ready n)) (λ (m : g.claims ≤ s.claims). inr m) o)
       (is.greedy claimed);
-  few = subst (λ (z : State). z.claims ≤ most_claims) ready is.at_most.1;
+  few = subst (λ (z : State). z.claims ≤ g.claims) ready is.at_most.1;
   how =
       ⊎_elim
       (λ (shuts : CanClose g i is.ready x.last × (false ≡ false) × (is.done ≡ shut g i is.ready)).
@@ -215,7 +214,7 @@ quiet_turn g level i s new x quiet h = record {
     sent = nothing_in x.sent q1.1
 
 -- safe while open, safe while closed
-shut_safe : (g : Graph) (i : ℕ) (s : State) (r q : ℕ) (u : Part) (t : Tag) → IsSafe g (raised s q).waits (raised s q).busy q u t → IsSafe g (raised (shut g i (raised s r)) q).waits (raised (shut g i (raised s r)) q).busy q u t
+shut_safe : (g : Graph) (i : ℕ) (s : State) (r q : ℕ) (u : Unit) (t : Tag) → IsSafe g (raised s q).waits (raised s q).busy q u t → IsSafe g (raised (shut g i (raised s r)) q).waits (raised (shut g i (raised s r)) q).busy q u t
 shut_safe g i s r q u t k = record { event = k.event; least = k.least; free = k.free; bounds = k.bounds; events = k.events; claims = k.claims }
 
 spans : (a b c d : ℕ) → a ≤ b → b ≤ c → c ≤ d → a ≤ d
@@ -243,7 +242,7 @@ quiet_turns_join g level i s mid new x y fit qx qy ix iy =
       rises = a.rises;
       span = spans x.first x.last y.first y.last a.span (b.rises x.last refl) b.span;
       none_due = b.none_due;
-      greedy = ⊎_elim (λ (n : NothingSafe g (raised (shut g i (raised s x.last)) y.last).waits (raised (shut g i (raised s x.last)) y.last).busy y.last). inl (λ u t safe. n u t (shut_safe g i s x.last y.last u t safe))) (λ (m : most_claims ≤ s.claims). inr m) b.greedy;
+      greedy = ⊎_elim (λ (n : NothingSafe g (raised (shut g i (raised s x.last)) y.last).waits (raised (shut g i (raised s x.last)) y.last).busy y.last). inl (λ u t safe. n u t (shut_safe g i s x.last y.last u t safe))) (λ (m : g.claims ≤ s.claims). inr m) b.greedy;
       few = a.few;
       how =
           ⊎_elim

@@ -3,7 +3,7 @@ use Rattle.std.proofs.Common.{◌≡◌, ℕ, ◌==◌, ◌≢◌, true, false, 
 use Rattle.std.proofs.lemmas.Bool.{cases_Bool, cases_eq, cond-true, cond-false}
 use Rattle.pt_types.specs.declared.graph.Graph.{Graph}
 use Rattle.pt_types.specs.declared.kind.Kind.{Kind}
-use Rattle.pt_types.specs.declared.graph.Unit.{Unit as Part}
+use Rattle.pt_types.specs.declared.graph.Unit.{Unit}
 use Rattle.pt_semantics.specs.Lists.{IsIn}
 use Rattle.pt_semantics.specs.Edges.{first_state}
 use Rattle.pt_types.specs.Lookups.{kind_of}
@@ -27,16 +27,16 @@ open_list g None = []
 open_list g (Some task) = firing_by g task ∷ []
 
 -- claimed firings c, posted firings q
-pub record Chains (g : Graph) (busy : Part → Option Task) (states : ℕ → ℤ) (c q : Firings) : Type 0 where
-  pub open_is : (u : Part) → c u ≡ q u ++ open_list g (busy u)
-  pub threaded : (u : Part) → Threaded (kind_of g u.actor) u.group (first_state (kind_of g u.actor)) (c u)
+pub record Chains (g : Graph) (busy : Unit → Option Task) (states : ℕ → ℤ) (c q : Firings) : Type 0 where
+  pub open_is : (u : Unit) → c u ≡ q u ++ open_list g (busy u)
+  pub threaded : (u : Unit) → Threaded (kind_of g u.actor) u.group (first_state (kind_of g u.actor)) (c u)
   pub states_are : (a p : ℕ) → busy (at_input g a p) ≡ None → states a ≡ last_state (first_state (kind_of g a)) (c (at_input g a p))
-  pub real : (u : Part) (x : Firing) → IsIn x (c u) → (p : ℕ) × (at_input g u.actor p ≡ u)
+  pub real : (u : Unit) (x : Firing) → IsIn x (c u) → (p : ℕ) × (at_input g u.actor p ≡ u)
 
 same_groups : (k : Kind) (p o : ℕ) → ((m n : ℕ) → input_group k m ≡ input_group k n) → input_group k p ≡ input_group k o
 same_groups k p o h = h p o
 
-pub chains_post : (g : Graph) (busy : Part → Option Task) (states : ℕ → ℤ) (c q : Firings) (task : Task) (result : ℤ) → Chains g busy states c q → busy (unit_of g task) ≡ Some task → result ≡ (firing_by g task).after → Chains g (put_busy busy (unit_of g task) None) (put_state states task.actor result) c (more q (unit_of g task) (firing_by g task))
+pub chains_post : (g : Graph) (busy : Unit → Option Task) (states : ℕ → ℤ) (c q : Firings) (task : Task) (result : ℤ) → Chains g busy states c q → busy (unit_of g task) ≡ Some task → result ≡ (firing_by g task).after → Chains g (put_busy busy (unit_of g task) None) (put_state states task.actor result) c (more q (unit_of g task) (firing_by g task))
 chains_post g busy states c q task result h is_open res = record {
   open_is = λ u.
       ⊎_elim
@@ -50,7 +50,7 @@ chains_post g busy states c q task result h is_open res = record {
   states_are = λ a p free.
       ⊎_elim
       (λ (here : w ≡ at_input g a p).
-      let actor : task.actor ≡ a = ap (λ (v : Part). v.actor) here in
+      let actor : task.actor ≡ a = ap (λ (v : Unit). v.actor) here in
       put_here states task.actor a result actor ∙ res
       ∙ sym (last_push (first_state (kind_of g a)) (q w) x)
       ∙ ap (last_state (first_state (kind_of g a))) (sym c_here ∙ ap c here))
@@ -64,7 +64,7 @@ chains_post g busy states c q task result h is_open res = record {
   real = h.real;
 }
   where
-    w : Part
+    w : Unit
     w = unit_of g task
 
     x : Firing
@@ -129,7 +129,7 @@ chains_claim g s c q task h free event inputs state = record {
       (more_found c w u x y mem);
 }
   where
-    w : Part
+    w : Unit
     w = unit_of g task
 
     x : Firing

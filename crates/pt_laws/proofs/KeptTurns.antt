@@ -1,10 +1,11 @@
 -- A history that joins quiet turns keeps what is legal, and what was claimed, sent and taken.
 use Rattle.std.proofs.Common.{rules, inr, ◌≡◌, ℕ, ◌+◌, ◌-◌, ◌^◌, ◌<◌, ◌≤◌, ◌&&◌, if◌then◌else◌, Bool, true, false, List, [], ◌∷◌, ◌++◌, filter_map, nat_lt, arith, refl, sym, ap, subst, ◌∙◌, ⊎_elim, append_assoc, append-nil}
+use Rattle.std.specs.Prelude.{⊤}
 use Rattle.std.proofs.lemmas.Bool.{and_parts, and_from, false≢true}
 use Rattle.std.specs.List.{flat_map}
 use Rattle.std.proofs.lemmas.Grind.{flat_map-append}
 use Rattle.pt_types.specs.declared.graph.Graph.{Graph}
-use Rattle.pt_types.specs.declared.graph.Unit.{Unit as Part}
+use Rattle.pt_types.specs.declared.graph.Unit.{Unit}
 use Rattle.pt_types.specs.declared.rows.Row.{Row}
 use Rattle.pt_semantics.specs.Lists.{Each, IsIn}
 use Rattle.pt_semantics.specs.Behaviours.{Firings}
@@ -22,7 +23,6 @@ use Rattle.pt_semantics.proofs.Longest.{levels_grow}
 use Rattle.pt_laws.proofs.FloorHolds.{Sound, turn_sound, opened_sound}
 use Rattle.pt_laws.proofs.Raise.{nothing_in}
 use Rattle.pt_laws.proofs.Joined.{quiet_turns_join, quiet_ready, quiet_on_time, quiet_leaves}
-use Rattle.pt_types.specs.Limits.{most_claims}
 
 -- the five lists of a quiet turn are empty
 record AreEmpty (x : Turn) : Type 0 where
@@ -89,7 +89,7 @@ module _ {X : Type 0} (f : Turn → List X) (nothing : (x : Turn) → is_quiet x
   gathers : (turns : List Turn) → flat_map f (kept turns) ≡ flat_map f turns
   gathers turns = gathers_from [] turns
 
-claims_none : (g : Graph) (u : Part) (x : Turn) → is_quiet x ≡ true → filter_map (of_unit g u) x.claimed ≡ []
+claims_none : (g : Graph) (u : Unit) (x : Turn) → is_quiet x ≡ true → filter_map (of_unit g u) x.claimed ≡ []
 claims_none g u x quiet = ap (filter_map (of_unit g u)) (empty x quiet).claimed
 
 sent_nothing : (l : ℕ) (x : Turn) → is_quiet x ≡ true → on_link l x.sent ≡ []
@@ -140,9 +140,9 @@ module _ (g : Graph) (level : ℕ → ℕ) (i : ℕ) (wired : IsWired g) (levels
       let ready_y = quiet_ready g level i mid end y fit2 j.second iy in
       ⊎_elim
       (λ (l : false ≡ true). absurd (false≢true l))
-      (λ (full : (most_claims ≤ s.claims) × (NothingSafe g is.ready.waits is.ready.busy y.last → ⊥)).
+      (λ (full : (g.claims ≤ s.claims) × (NothingSafe g is.ready.waits is.ready.busy y.last → ⊥)).
       inr (
-        subst (λ n. most_claims ≤ n) (sym leaves.claims) full.0,
+        subst (λ n. g.claims ≤ n) (sym leaves.claims) full.0,
         λ none. full.1
             (subst (λ (z : State). NothingSafe g z.waits z.busy y.last) (sym ready_j)
             (subst (λ w. NothingSafe g w s.busy y.last) leaves.waits
@@ -199,7 +199,7 @@ settled_is_legal g level i rows turns s wired are fits =
 
 -- the last turn of a history is by itself
 abbrev EndsSingle : List Turn → Type 0
-EndsSingle [] = Unit {0}
+EndsSingle [] = ⊤
 EndsSingle (x ∷ []) = x.count ≡ 1
 EndsSingle (x ∷ y ∷ rest) = EndsSingle (y ∷ rest)
 

@@ -35,3 +35,4 @@ pub mod Idle
 pub mod Joined
 pub mod KeptTurns
 pub mod Read
+pub mod SameTurns

@@ -4,7 +4,7 @@ use Rattle.std.proofs.lemmas.Bool.{cases_Bool, cases_eq, cond-true, cond-false, 
 use Rattle.std.specs.List.{cons_option}
 use Rattle.pt_types.specs.declared.graph.Graph.{Graph}
 use Rattle.pt_types.specs.declared.kind.Kind.{Kind}
-use Rattle.pt_types.specs.declared.graph.Unit.{Unit as Part}
+use Rattle.pt_types.specs.declared.graph.Unit.{Unit}
 use Rattle.pt_tags.specs.declared.tag.Tag.{Tag}
 use Rattle.pt_tags.specs.Tags.{same_tag, Before}
 use Rattle.pt_semantics.specs.Lists.{first_of, or_else, IsIn}
@@ -41,8 +41,8 @@ pub record Mid (g : Graph) (rank : ℕ → ℕ) (rows : ℕ → List Row) (w : W
   pub came : (a p : ℕ) (t : Tag) → arr a p t ≡ or_else (opening g rows a p t) (flows g (edges g) (parts g zs) a p t)
   pub fresh : (a p : ℕ) (t : Tag) → ((z : ActorFiring) → IsIn z zs → z.actor ≡ a → z.tag ≡ t → ⊥) → w.waits a p t ≡ arr a p t
   pub used : (z : ActorFiring) (p : ℕ) → IsIn z zs → p < 8 → at_port z.inputs p ≡ arr z.actor p z.tag
-  pub rising : (u : Part) → Rising (parts g zs u)
-  pub threaded : (u : Part) → Threaded (kind_of g u.actor) u.group (first_state (kind_of g u.actor)) (parts g zs u)
+  pub rising : (u : Unit) → Rising (parts g zs u)
+  pub threaded : (u : Unit) → Threaded (kind_of g u.actor) u.group (first_state (kind_of g u.actor)) (parts g zs u)
   pub states_are : (a p : ℕ) → w.states a ≡ last_state (first_state (kind_of g a)) (parts g zs (at_input g a p))
 
 pub absent : (o : Option ℤ) → ((v : ℤ) → o ≡ Some v → ⊥) → o ≡ None
@@ -156,7 +156,7 @@ module _ (g : Graph) (rank : ℕ → ℕ) (rows : ℕ → List Row) (wired : IsW
       ∙ m.fresh a p t (λ z mem. never z (IsIn-append_left z zs (x ∷ []) mem)))
 
   -- the part that a unit has in this firing
-  part_fires : (u : Part) → HasPart g u x → IsFiring (kind_of g u.actor) u.group (last_state (first_state (kind_of g u.actor)) (parts g zs u)) (the_part (kind_of g u.actor) x (narrow g u x))
+  part_fires : (u : Unit) → HasPart g u x → IsFiring (kind_of g u.actor) u.group (last_state (first_state (kind_of g u.actor)) (parts g zs u)) (the_part (kind_of g u.actor) x (narrow g u x))
   part_fires u has =
       let at = eight_found (λ p. when (input_group (kind_of g u.actor) p == u.group) (at_port x.inputs p)) has.present in
       let group : input_group (kind_of g u.actor) at.0 ≡ u.group = eqb-true _ u.group (when_found (input_group (kind_of g u.actor) at.0 == u.group) (at_port x.inputs at.0) at.1 at.3).0 in
@@ -171,13 +171,13 @@ module _ (g : Graph) (rank : ℕ → ℕ) (rows : ℕ → List Row) (wired : IsW
         shape = narrowed_again (kind_of g u.actor) u.group x.inputs;
       }
 
-  parts_none : (u : Part) → part_of g u x ≡ None → parts g after u ≡ parts g zs u
+  parts_none : (u : Unit) → part_of g u x ≡ None → parts g after u ≡ parts g zs u
   parts_none u none = parts_push g zs x u ∙ ap (λ o. parts g zs u ++ cons_option o []) none ∙ append-nil (parts g zs u)
 
-  parts_some : (u : Part) → HasPart g u x → parts g after u ≡ parts g zs u ++ the_part (kind_of g u.actor) x (narrow g u x) ∷ []
+  parts_some : (u : Unit) → HasPart g u x → parts g after u ≡ parts g zs u ++ the_part (kind_of g u.actor) x (narrow g u x) ∷ []
   parts_some u has = parts_push g zs x u ∙ ap (λ o. parts g zs u ++ cons_option o []) has.is
 
-  rising_after : (u : Part) → Rising (parts g after u)
+  rising_after : (u : Unit) → Rising (parts g after u)
   rising_after u =
       ⊎_elim
       (λ (none : part_of g u x ≡ None). subst Rising (sym (parts_none u none)) (m.rising u))
@@ -191,7 +191,7 @@ module _ (g : Graph) (rank : ℕ → ℕ) (rows : ℕ → List Row) (wired : IsW
       subst (λ (v : Firing). Before v.tag x.tag) (sym from.3) (sooner_same z.tag x.tag x.actor (rank x.actor) s))))
       (part_cases g u x)
 
-  threaded_after : (u : Part) → Threaded (kind_of g u.actor) u.group (first_state (kind_of g u.actor)) (parts g after u)
+  threaded_after : (u : Unit) → Threaded (kind_of g u.actor) u.group (first_state (kind_of g u.actor)) (parts g after u)
   threaded_after u =
       ⊎_elim
       (λ (none : part_of g u x ≡ None). subst (Threaded (kind_of g u.actor) u.group (first_state (kind_of g u.actor))) (sym (parts_none u none)) (m.threaded u))
@@ -218,7 +218,7 @@ module _ (g : Graph) (rank : ℕ → ℕ) (rows : ℕ → List Row) (wired : IsW
       ∙ ap (last_state (first_state (kind_of g a))) (sym (parts_none u (when-false (x.actor == a) _ (differ x.actor a other)))))
       (cases_eq x.actor a)
     where
-      u : Part
+      u : Unit
       u = at_input g a p
 
       differ : (a b : ℕ) → (a ≡ b → ⊥) → (a == b) ≡ false
@@ -308,12 +308,12 @@ module _ (g : Graph) (rank : ℕ → ℕ) (rows : ℕ → List Row) (xs : List A
           (or_else_found (start_at g (kind_of g a) t) (row_at (rows a) t) v (when_found (p == 0) _ v h).1)
 
   -- where an actor fired, its inputs are what came
-  inputs_are : (u : Part) (z : ActorFiring) → IsIn z xs → z.actor ≡ u.actor → narrow g u z ≡ unit_inputs g (comes g (opening g rows) f) u z.tag
+  inputs_are : (u : Unit) (z : ActorFiring) → IsIn z xs → z.actor ≡ u.actor → narrow g u z ≡ unit_inputs g (comes g (opening g rows) f) u z.tag
   inputs_are u z mem same = eight_below _ _ (λ p lt.
       ap (when (input_group (kind_of g u.actor) p == u.group))
       (e.mid.used z p mem lt ∙ ap (λ a. e.mid.arr a p z.tag) same ∙ came_is u.actor p z.tag))
 
-  reacts_some : (u : Part) (t : Tag) (y : Firing) → firing_at (f u) t ≡ Some y → Some y ≡ reaction g (opening g rows) f u t
+  reacts_some : (u : Unit) (t : Tag) (y : Firing) → firing_at (f u) t ≡ Some y → Some y ≡ reaction g (opening g rows) f u t
   reacts_some u t y h =
       let is = threaded_at (kind_of g u.actor) u.group (first_state (kind_of g u.actor)) (f u) t y (e.mid.rising u) (e.mid.threaded u) h in
       let from = in_parts g u xs y (firing_at_in (f u) t y h).0 in
@@ -366,7 +366,7 @@ module _ (g : Graph) (rank : ℕ → ℕ) (rows : ℕ → List Row) (xs : List A
   not_present true h = absurd (h refl)
   not_present false h = refl
 
-  reacts_none : (u : Part) (t : Tag) → firing_at (f u) t ≡ None → reaction g (opening g rows) f u t ≡ None
+  reacts_none : (u : Unit) (t : Tag) → firing_at (f u) t ≡ None → reaction g (opening g rows) f u t ≡ None
   reacts_none u t h = when-false (any_present (unit_inputs g (comes g (opening g rows) f) u t)) _
       (⊎_elim
       (λ (found : (z : ActorFiring) × IsIn z xs × (z.actor ≡ u.actor) × (z.tag ≡ t)).
@@ -386,7 +386,7 @@ module _ (g : Graph) (rank : ℕ → ℕ) (rows : ℕ → List Row) (xs : List A
       ∙ when_none ℤ (input_group (kind_of g u.actor) p == u.group))))
       (fired_there u.actor t))
 
-  reacts_is : (u : Part) (t : Tag) (o : Option Firing) → firing_at (f u) t ≡ o → firing_at (f u) t ≡ reaction g (opening g rows) f u t
+  reacts_is : (u : Unit) (t : Tag) (o : Option Firing) → firing_at (f u) t ≡ o → firing_at (f u) t ≡ reaction g (opening g rows) f u t
   reacts_is u t None h = h ∙ sym (reacts_none u t h)
   reacts_is u t (Some y) h = h ∙ reacts_some u t y h
 

@@ -5,7 +5,7 @@ use Rattle.std.proofs.lemmas.List.Elements.{filter_map-append}
 use Rattle.std.specs.List.{cons_option}
 use Rattle.pt_types.specs.declared.graph.Graph.{Graph}
 use Rattle.pt_types.specs.declared.kind.Kind.{Kind}
-use Rattle.pt_types.specs.declared.graph.Unit.{Unit as Part}
+use Rattle.pt_types.specs.declared.graph.Unit.{Unit}
 use Rattle.pt_tags.specs.declared.tag.Tag.{Tag}
 use Rattle.pt_tags.specs.Tags.{same_tag, plus, Before}
 use Rattle.pt_semantics.specs.Lists.{first_of, IsIn}
@@ -56,15 +56,15 @@ tag_from t u a b = λ i. record { time = a i; step = b i }
 abbrev pub the_part : Kind → ActorFiring → List (Option ℤ) → Firing
 the_part kind x inputs = record { tag = x.tag; inputs = inputs; before = x.before; after = (fired kind x.before inputs).state; outputs = (fired kind x.before inputs).outputs }
 
-abbrev pub narrow : Graph → Part → ActorFiring → List (Option ℤ)
+abbrev pub narrow : Graph → Unit → ActorFiring → List (Option ℤ)
 narrow g u x = narrowed (kind_of g u.actor) u.group x.inputs
 
-pub record HasPart (g : Graph) (u : Part) (x : ActorFiring) : Type 0 where
+pub record HasPart (g : Graph) (u : Unit) (x : ActorFiring) : Type 0 where
   pub actor : x.actor ≡ u.actor
   pub present : any_present (narrow g u x) ≡ true
   pub is : part_of g u x ≡ Some (the_part (kind_of g u.actor) x (narrow g u x))
 
-pub part_cases : (g : Graph) (u : Part) (x : ActorFiring) → (part_of g u x ≡ None) ⊎ HasPart g u x
+pub part_cases : (g : Graph) (u : Unit) (x : ActorFiring) → (part_of g u x ≡ None) ⊎ HasPart g u x
 part_cases g u x =
     ⊎_elim
     (λ (mine : (x.actor == u.actor) ≡ true).
@@ -82,7 +82,7 @@ part_cases g u x =
     (cases_Bool (x.actor == u.actor))
 
 -- a part comes from a firing
-pub in_parts : (g : Graph) (u : Part) (zs : List ActorFiring) (y : Firing) → IsIn y (parts g zs u) → (z : ActorFiring) × IsIn z zs × HasPart g u z × (y ≡ the_part (kind_of g u.actor) z (narrow g u z))
+pub in_parts : (g : Graph) (u : Unit) (zs : List ActorFiring) (y : Firing) → IsIn y (parts g zs u) → (z : ActorFiring) × IsIn z zs × HasPart g u z × (y ≡ the_part (kind_of g u.actor) z (narrow g u z))
 in_parts g u [] y m = absurd m
 in_parts g u (z ∷ zs) y m =
     ⊎_elim
@@ -96,7 +96,7 @@ in_parts g u (z ∷ zs) y m =
     (part_cases g u z)
 
 -- and a firing's part is among them
-pub part_in : (g : Graph) (u : Part) (zs : List ActorFiring) (z : ActorFiring) → IsIn z zs → HasPart g u z → IsIn (the_part (kind_of g u.actor) z (narrow g u z)) (parts g zs u)
+pub part_in : (g : Graph) (u : Unit) (zs : List ActorFiring) (z : ActorFiring) → IsIn z zs → HasPart g u z → IsIn (the_part (kind_of g u.actor) z (narrow g u z)) (parts g zs u)
 part_in g u [] z m has = absurd m
 part_in g u (y ∷ zs) z m has =
     ⊎_elim
@@ -111,7 +111,7 @@ part_in g u (y ∷ zs) z m has =
 abbrev pub part_list : Graph → ActorFiring → Firings
 part_list g x u = cons_option (part_of g u x) []
 
-pub parts_push : (g : Graph) (zs : List ActorFiring) (x : ActorFiring) (u : Part) → parts g (zs ++ x ∷ []) u ≡ parts g zs u ++ part_list g x u
+pub parts_push : (g : Graph) (zs : List ActorFiring) (x : ActorFiring) (u : Unit) → parts g (zs ++ x ∷ []) u ≡ parts g zs u ++ part_list g x u
 parts_push g zs x u = filter_map-append (part_of g u) zs (x ∷ [])
 
 pub parts_all : (g : Graph) (zs : List ActorFiring) (x : ActorFiring) → ◌≡◌ {A = Firings} (parts g (zs ++ x ∷ [])) (λ u. parts g zs u ++ part_list g x u)

@@ -3,7 +3,7 @@ use Rattle.std.proofs.Common.{◌≡◌, ℕ, ◌+◌, ◌≤◌, Option, Some, 
 use Rattle.pt_tags.specs.declared.tag.Tag.{Tag}
 use Rattle.pt_types.specs.declared.graph.Graph.{Graph}
 use Rattle.pt_types.specs.declared.graph.Link.{Link}
-use Rattle.pt_types.specs.declared.graph.Unit.{Unit as Part}
+use Rattle.pt_types.specs.declared.graph.Unit.{Unit}
 use Rattle.pt_tags.specs.Tags.{plus}
 use Rattle.pt_semantics.specs.Lists.{IsIn}
 use Rattle.pt_semantics.specs.Edges.{Edge, edges, wires, links, of_link}
@@ -24,7 +24,7 @@ use Rattle.pt_laws.proofs.PacedClosed.{along_wire, paced_earlier, past_bound, se
 pub one_is_near : (g : Graph) (c : ℕ) → AreNear g (λ i. c)
 one_is_near g c l link at = omega arith
 
-module _ (g : Graph) (offset : Part → Option ℤ) (has : (u : Part) → HasOffset g u (offset u)) (wired : IsWired g) (feasible : IsFeasible g) (c : ℕ → ℕ) where
+module _ (g : Graph) (offset : Unit → Option ℤ) (has : (u : Unit) → HasOffset g u (offset u)) (wired : IsWired g) (feasible : IsFeasible g) (c : ℕ → ℕ) where
   -- what comes within its link's bound is past the receiver's reading
   pub received_later : (l : ℕ) (link : Link) (t : Tag) → slice_get g.links l ≡ Some link → c (platform_of g link.to) ≤ t.time + link_bound g link → c (platform_of g link.to) ≤ paced_by (offset (at_input g link.to 0)) t
   received_later l link t at le =

@@ -6,7 +6,7 @@ use Rattle.pt_types.specs.declared.graph.Link.{Link}
 use Rattle.pt_tags.specs.declared.tag.Tag.{Tag}
 use Rattle.pt_types.specs.declared.kind.Kind.{Kind}
 use Rattle.pt_types.specs.declared.kind.Kind.TheVariants.{Every}
-use Rattle.pt_types.specs.declared.graph.Unit.{Unit as Part}
+use Rattle.pt_types.specs.declared.graph.Unit.{Unit}
 use Rattle.pt_tags.specs.Tags.{Before, plus, same_tag}
 use Rattle.pt_types.specs.Ports.{when}
 use Rattle.pt_semantics.specs.Lists.{IsIn}
@@ -85,7 +85,7 @@ module _ (g : Graph) (level : ℕ → ℕ) (i : ℕ) (rows : ℕ → List Row) (
   post_once : (s : State) (up : Option ℕ) (c : Firings) (sent tk : ℕ → List Message) (d : Done) → Whole g level i rows s up c sent tk → s.busy (unit_of g d.task) ≡ Some d.task → NothingThere s.waits (going g (wires g) (leaves_unit g (unit_of g d.task)) d.task.tag d.fired.outputs)
   post_once s up c sent tk d h busy a p t v new = absent (s.waits a p t) (λ w there.
       let k = h.keeps in
-      let u : Part = unit_of g d.task in
+      let u : Unit = unit_of g d.task in
       let went = going_found g (wires g) (leaves_unit g u) d.task.tag d.fired.outputs a p t v new in
       let e : Edge = went.edge in
       let src : u ≡ source g e = same_part-true u (source g e) went.leaves_it in
@@ -114,7 +114,7 @@ module _ (g : Graph) (level : ℕ → ℕ) (i : ℕ) (rows : ℕ → List Row) (
       starts : (kind : Kind) → kind_of g a ≡ kind → (e : Edge) → IsIn e (wires g) → e.to ≡ a → (t : Tag) (w : ℤ) → IsIn (firing_by g d.task) (c (unit_of g d.task)) → unit_of g d.task ≡ source g e → plus d.task.tag e.weight ≡ t → start_at g (kind_of g a) t ≡ Some w → ((start period : ℕ) → kind_of g d.task.actor ≡ Every start period → start ≤ d.task.tag.time) → ⊥
       starts (Every start period) ek e mem to t w mine src tag h later =
           let loop = wired.loops e start period (IsIn-append_left e (wires g) (links g) mem) (ap (kind_of g) to ∙ ek) in
-          let from : d.task.actor ≡ a = ap (λ (z : Part). z.actor) src ∙ loop.0 ∙ to in
+          let from : d.task.actor ≡ a = ap (λ (z : Unit). z.actor) src ∙ loop.0 ∙ to in
           let le : start ≤ d.task.tag.time = later start period (ap (kind_of g) from ∙ ek) in
           let at : at_time start ≡ t = start_time g (kind_of g a) start period t w ek h in
           let time : start ≡ t.time = ap (λ (z : Tag). z.time) at in

@@ -4,7 +4,7 @@ use Rattle.std.proofs.lemmas.Bool.{cases_lt}
 use Rattle.pt_types.specs.declared.graph.Graph.{Graph}
 use Rattle.pt_types.specs.declared.graph.Link.{Link}
 use Rattle.pt_tags.specs.declared.tag.Tag.{Tag}
-use Rattle.pt_types.specs.declared.graph.Unit.{Unit as Part}
+use Rattle.pt_types.specs.declared.graph.Unit.{Unit}
 use Rattle.pt_semantics.specs.Lists.{IsIn, Each}
 use Rattle.pt_types.specs.Lookups.{kind_of, platform_of}
 use Rattle.pt_semantics.specs.Units.{at_output, unit_of}
@@ -35,7 +35,7 @@ use Rattle.pt_laws.proofs.PacedClosed.{sends_in_time}
 use Rattle.pt_laws.proofs.Paces.{InBound, IsForeign, Later, Paces, in_on_link, takes_own, turn_paces}
 
 -- all platforms together, each at its own clock's reading: nothing that is still to be done was to be done before it
-pub record OnwardNear (g : Graph) (level : ℕ → ℕ) (rows : ℕ → List Row) (offset : Part → Option ℤ) (c : ℕ → ℕ) (x : Together) : Type 0 where
+pub record OnwardNear (g : Graph) (level : ℕ → ℕ) (rows : ℕ → List Row) (offset : Unit → Option ℤ) (c : ℕ → ℕ) (x : Together) : Type 0 where
   pub legal : (i : ℕ) → i < length g.platforms → LegalOnTime g level i (opened g i rows) (x.did i) (x.at i)
   pub later : (i : ℕ) → i < length g.platforms → Later g offset (c i) i (x.at i)
   pub way : (l : ℕ) (link : Link) (t : Tag) (v : ℤ) → slice_get g.links l ≡ Some link → IsIn (Event t v) (x.on_way l) → c (platform_of g link.to) ≤ t.time + link_bound g link
@@ -43,7 +43,7 @@ pub record OnwardNear (g : Graph) (level : ℕ → ℕ) (rows : ℕ → List Row
   pub timed : (i : ℕ) → i < length g.platforms → Each (IsTimely g offset) (x.did i)
 
 -- the same at one common reading
-abbrev pub Onward : Graph → (ℕ → ℕ) → (ℕ → List Row) → (Part → Option ℤ) → ℕ → Together → Type 0
+abbrev pub Onward : Graph → (ℕ → ℕ) → (ℕ → List Row) → (Unit → Option ℤ) → ℕ → Together → Type 0
 Onward g level rows offset c x = OnwardNear g level rows offset (λ i. c) x
 
 -- one turn of a platform at reading r: it takes some of the messages on their way, each link's first, and what it sends is on its way
@@ -133,7 +133,7 @@ taken_push l (x ∷ turns) turn = ap (λ z. on_link l x.taken ++ z) (taken_push 
 pub cases_same : (m n : ℕ) → (m ≡ n) ⊎ (m ≢ n)
 cases_same m n = ⊎_elim (λ (l : m < n). inr (λ e. absurd (omega arith))) (λ (k : n ≤ m). ⊎_elim (λ (l : n < m). inr (λ e. absurd (omega arith))) (λ (j : m ≤ n). inl (omega arith)) (cases_lt n m)) (cases_lt m n)
 
-module _ (g : Graph) (level : ℕ → ℕ) (rows : ℕ → List Row) (offset : Part → Option ℤ) (has : (u : Part) → HasOffset g u (offset u)) (wired : IsWired g) (feasible : IsFeasible g) (c : ℕ → ℕ) (near : AreNear g c) where
+module _ (g : Graph) (level : ℕ → ℕ) (rows : ℕ → List Row) (offset : Unit → Option ℤ) (has : (u : Unit) → HasOffset g u (offset u)) (wired : IsWired g) (feasible : IsFeasible g) (c : ℕ → ℕ) (near : AreNear g c) where
   pub advance_onward : (x y : Together) (m : Made) → m.platform < length g.platforms → OnwardNear g level rows offset c x → Advances g level (c m.platform) x m y → (m.late ≡ false) × OnwardNear g level rows offset c y
   advance_onward x y m lt h k = (
     tp.not_late,
@@ -257,7 +257,7 @@ module _ (g : Graph) (level : ℕ → ℕ) (rows : ℕ → List Row) (offset : P
       (subst (Each (λ (m : Made). m.late ≡ false)) (sym one.4) (step.0, on.0), on.1))
       r
 
-module _ (g : Graph) (level : ℕ → ℕ) (rows : ℕ → List Row) (offset : Part → Option ℤ) (has : (u : Part) → HasOffset g u (offset u)) (wired : IsWired g) (feasible : IsFeasible g) (c : ℕ) where
+module _ (g : Graph) (level : ℕ → ℕ) (rows : ℕ → List Row) (offset : Unit → Option ℤ) (has : (u : Unit) → HasOffset g u (offset u)) (wired : IsWired g) (feasible : IsFeasible g) (c : ℕ) where
   pub makes_onward : (x y : Together) (m : Made) → m.platform < length g.platforms → Onward g level rows offset c x → Makes g level c x m y → (m.late ≡ false) × Onward g level rows offset c y
   makes_onward x y m lt h k = advance_onward g level rows offset has wired feasible (λ i. c) (one_is_near g c) x y m lt h (makes_advances g level c x m y k)
 

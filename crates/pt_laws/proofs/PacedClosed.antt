@@ -4,7 +4,7 @@ use Rattle.std.proofs.lemmas.Int.{ints}
 use Rattle.pt_tags.specs.declared.tag.Tag.{Tag}
 use Rattle.pt_types.specs.declared.graph.Graph.{Graph}
 use Rattle.pt_types.specs.declared.graph.Link.{Link}
-use Rattle.pt_types.specs.declared.graph.Unit.{Unit as Part}
+use Rattle.pt_types.specs.declared.graph.Unit.{Unit}
 use Rattle.pt_tags.specs.Tags.{plus}
 use Rattle.pt_semantics.specs.Lists.{IsIn}
 use Rattle.pt_semantics.specs.Edges.{Edge, wires}
@@ -20,7 +20,7 @@ use Rattle.pt_semantics.specs.Paced.{paced_by, at_least_zero}
 use Rattle.pt_semantics.proofs.Longest.{sum_time}
 use Rattle.pt_semantics.proofs.Floor.{bound_of_link, receiver_unit}
 
-goes_push : (g : Graph) (x : Part) (path : List Edge) (e : Edge) → Goes g x path (source g e) → IsIn e (wires g) → Goes g x (path ++ e ∷ []) (target g e)
+goes_push : (g : Graph) (x : Unit) (path : List Edge) (e : Edge) → Goes g x path (source g e) → IsIn e (wires g) → Goes g x (path ++ e ∷ []) (target g e)
 goes_push g x [] e h m = (m, sym h, refl)
 goes_push g x (d ∷ path) e (md, src, rest) m = (md, src, goes_push g (target g d) path e rest m)
 
@@ -45,11 +45,11 @@ paced_on (Some o) q s time h ts tt2 es et =
     (subst (λ m. ((pos s +ℤ o) +ℤ pos 1) ≤ℤ ((pos m +ℤ w.0) +ℤ pos 1)) (sym et) (omega (arith, ints)))))
 
 -- an offset that is there, from one that is absent or not
-pub there : (g : Graph) (u : Part) (o : Option ℤ) → HasOffset g u o → (a b : ℕ) (path : List Edge) → Feeds g a b path u → (r : ℤ) × (o ≡ Some r) × ((pos b -ℤ pos (sum_along path).time) ≤ℤ r)
+pub there : (g : Graph) (u : Unit) (o : Option ℤ) → HasOffset g u o → (a b : ℕ) (path : List Edge) → Feeds g a b path u → (r : ℤ) × (o ≡ Some r) × ((pos b -ℤ pos (sum_along path).time) ≤ℤ r)
 there g u None h a b path feeds = absurd (h a b path feeds)
 there g u (Some r) h a b path feeds = (r, refl, h.greatest a b path feeds)
 
-pub from_some : (g : Graph) (u : Part) (p : Option ℤ) (o : ℤ) → HasOffset g u p → p ≡ Some o → IsOffset g u o
+pub from_some : (g : Graph) (u : Unit) (p : Option ℤ) (o : ℤ) → HasOffset g u p → p ≡ Some o → IsOffset g u o
 from_some g u None o h e = absurd (none_some_z o e)
   where
     none_some_z : (z : ℤ) → None ≡ Some z → ⊥
@@ -59,7 +59,7 @@ from_some g u (Some r) o h e = subst (IsOffset g u) (same_z r o e) h
     same_z : (y z : ℤ) → Some y ≡ Some z → y ≡ z
     same_z y z q = cc
 
-pub along_wire : (g : Graph) (offset : Part → Option ℤ) → ((u : Part) → HasOffset g u (offset u)) → (e : Edge) (s : Tag) → IsIn e (wires g) → paced_by (offset (source g e)) s ≤ paced_by (offset (target g e)) (plus s e.weight)
+pub along_wire : (g : Graph) (offset : Unit → Option ℤ) → ((u : Unit) → HasOffset g u (offset u)) → (e : Edge) (s : Tag) → IsIn e (wires g) → paced_by (offset (source g e)) s ≤ paced_by (offset (target g e)) (plus s e.weight)
 along_wire g offset has e s mem =
     paced_on (offset (source g e)) (offset (target g e)) s.time (s.time + e.weight.time)
     (λ o is.
@@ -75,7 +75,7 @@ along_wire g offset has e s mem =
     step b d d2 w t o r e1 e2 h = omega (arith, ints)
 
 -- a receiver's paced reading is past its link's bound
-pub past_bound : (g : Graph) (offset : Part → Option ℤ) → IsWired g → ((u : Part) → HasOffset g u (offset u)) → (l : ℕ) (link : Link) (t : Tag) → slice_get g.links l ≡ Some link → t.time + link_bound g link + 1 ≤ paced_by (offset (at_input g link.to 0)) t
+pub past_bound : (g : Graph) (offset : Unit → Option ℤ) → IsWired g → ((u : Unit) → HasOffset g u (offset u)) → (l : ℕ) (link : Link) (t : Tag) → slice_get g.links l ≡ Some link → t.time + link_bound g link + 1 ≤ paced_by (offset (at_input g link.to 0)) t
 past_bound g offset wired has l link t at =
     let feeds : Feeds g link.to (link_bound g link) [] (at_input g link.to 0) = record { bound = bound_of_link g l link wired at; goes = sym (receiver_unit g link.to 0 (wired.receives l link at)) } in
     let on = there g (at_input g link.to 0) (offset (at_input g link.to 0)) (has (at_input g link.to 0)) link.to (link_bound g link) [] feeds in

@@ -6,7 +6,7 @@ use Rattle.std.specs.List.{cons_option}
 use Rattle.pt_types.specs.declared.graph.Graph.{Graph}
 use Rattle.pt_types.specs.declared.graph.Link.{Link}
 use Rattle.pt_tags.specs.declared.tag.Tag.{Tag}
-use Rattle.pt_types.specs.declared.graph.Unit.{Unit as Part}
+use Rattle.pt_types.specs.declared.graph.Unit.{Unit}
 use Rattle.pt_tags.specs.Tags.{plus, same_tag}
 use Rattle.pt_types.specs.Ports.{when, at_port}
 use Rattle.pt_semantics.specs.Lists.{IsIn, Each}
@@ -48,9 +48,9 @@ abbrev pub IsForeign : Graph → ℕ → ℕ → Type 0
 IsForeign g i l = (link : Link) → slice_get g.links l ≡ Some link → platform_of g link.from ≡ i → ⊥
 
 -- what platform i has still to do is its own, and not before reading c
-pub record Later (g : Graph) (offset : Part → Option ℤ) (c i : ℕ) (s : State) : Type 0 where
+pub record Later (g : Graph) (offset : Unit → Option ℤ) (c i : ℕ) (s : State) : Type 0 where
   pub waits : (a p : ℕ) (t : Tag) (v : ℤ) → s.waits a p t ≡ Some v → (platform_of g a ≡ i) × (c ≤ paced_by (offset (at_input g a p)) t)
-  pub busy : (u : Part) (task : Task) → s.busy u ≡ Some task → (platform_of g u.actor ≡ i) × (c ≡ paced_by (offset u) task.tag)
+  pub busy : (u : Unit) (task : Task) → s.busy u ≡ Some task → (platform_of g u.actor ≡ i) × (c ≡ paced_by (offset u) task.tag)
   pub left : (a : ℕ) (row : Row) → IsIn row (s.left a) → FitsRow g a row × (platform_of g a ≡ i) × (c ≤ row.seen)
   pub outbox : (l : ℕ) (link : Link) (t : Tag) (v : ℤ) → slice_get g.links l ≡ Some link → IsIn (Event t v) (s.outbox l) → c ≤ paced_by (offset (at_output g link.from 0)) t
   pub foreign : (l : ℕ) → IsForeign g i l → s.outbox l ≡ []
@@ -60,7 +60,7 @@ pub record Later (g : Graph) (offset : Part → Option ℤ) (c i : ℕ) (s : Sta
 at_most_reading : (r : ℕ) (z : ℤ) → z ≤ℤ pos r → at_least_zero z ≤ r
 at_most_reading r z h = zero_below z (pos r) h
 
-pub safe_when_paced : (g : Graph) (s : State) (r : ℕ) (u : Part) (t : Tag) (o : Option ℤ) → HasOffset g u o → IsSafe g s.waits s.busy r u t → paced_by o t ≤ r
+pub safe_when_paced : (g : Graph) (s : State) (r : ℕ) (u : Unit) (t : Tag) (o : Option ℤ) → HasOffset g u o → IsSafe g s.waits s.busy r u t → paced_by o t ≤ r
 safe_when_paced g s r u t None has safe = omega arith
 safe_when_paced g s r u t (Some o) has safe =
     let w = has.some in
@@ -141,7 +141,7 @@ nil_right (x ∷ a) b e = absurd (never x (a ++ b) e)
     never : (x : Message) (c : List Message) → x ∷ c ≡ [] → ⊥
     never x c h = cc
 
-module _ (g : Graph) (offset : Part → Option ℤ) (has : (u : Part) → HasOffset g u (offset u)) (wired : IsWired g) (c i : ℕ) where
+module _ (g : Graph) (offset : Unit → Option ℤ) (has : (u : Unit) → HasOffset g u (offset u)) (wired : IsWired g) (c i : ℕ) where
   later_post : (s : State) (d : Done) → Later g offset c i s → s.busy (unit_of g d.task) ≡ Some d.task → Later g offset c i (after_post g s d)
   later_post s d k busy = record {
     waits = λ a p t v found.
@@ -154,7 +154,7 @@ module _ (g : Graph) (offset : Part → Option ℤ) (has : (u : Part) → HasOff
         let src : unit_of g d.task ≡ source g e = same_part-true (unit_of g d.task) (source g e) went.leaves_it in
         let here : c ≤ paced_by (offset (source g e)) d.task.tag = subst (λ z. c ≤ paced_by (offset z) d.task.tag) src (as_le c _ open_here.1) in
         let on : paced_by (offset (source g e)) d.task.tag ≤ paced_by (offset (target g e)) (plus d.task.tag e.weight) = along_wire g offset has e d.task.tag went.mem in (
-          ap (platform_of g) (sym went.to) ∙ sym (wired.at_home e went.mem) ∙ ap (λ (z : Part). platform_of g z.actor) (sym src) ∙ open_here.0,
+          ap (platform_of g) (sym went.to) ∙ sym (wired.at_home e went.mem) ∙ ap (λ (z : Unit). platform_of g z.actor) (sym src) ∙ open_here.0,
           subst (λ z. c ≤ paced_by (offset z) t) (sym (end_is g e a p went.to went.input))
               (subst (λ z. c ≤ paced_by (offset (target g e)) z) went.when_is (both c _ _ here on)),
         ))
@@ -294,7 +294,7 @@ module _ (g : Graph) (offset : Part → Option ℤ) (has : (u : Part) → HasOff
         let et : task ≡ other = same_some task other (sym (put_same s.busy (unit_of g task) u (Some task) here) ∙ b) in
         let is : c ≡ paced_by (offset (unit_of g task)) task.tag = claim_timed s task k next in
         let at = event_found g s.waits (unit_of g task) task.tag next.safe.event in (
-          subst (λ (z : Part). platform_of g z.actor ≡ i) here (k.waits task.actor at.port task.tag at.value at.waits_there).0,
+          subst (λ (z : Unit). platform_of g z.actor ≡ i) here (k.waits task.actor at.port task.tag at.value at.waits_there).0,
           subst (λ (z : Task). c ≡ paced_by (offset u) z.tag) et (subst (λ z. c ≡ paced_by (offset z) task.tag) here is),
         ))
         (λ (there : unit_of g task ≢ u). k.busy u other (sym (put_other s.busy (unit_of g task) u (Some task) there) ∙ b))

@@ -8,7 +8,7 @@ use Rattle.pt_tags.specs.declared.tag.Tag.{Tag}
 use Rattle.pt_tags.specs.declared.tag.Delay.{Delay}
 use Rattle.pt_types.specs.declared.graph.Actor.{Actor}
 use Rattle.pt_types.specs.declared.kind.Kind.TheVariants.{Sensor, Receive}
-use Rattle.pt_types.specs.declared.graph.Unit.{Unit as Part}
+use Rattle.pt_types.specs.declared.graph.Unit.{Unit}
 use Rattle.pt_tags.specs.Tags.{Before, UpTo, plus}
 use Rattle.pt_types.specs.Ports.{when}
 use Rattle.pt_semantics.specs.Lists.{or_else, IsIn}
@@ -51,10 +51,9 @@ use Rattle.pt_semantics.proofs.Least.{paced_meets}
 use Rattle.pt_laws.proofs.PacedClosed.{paced_on, there, from_some}
 use Rattle.pt_laws.proofs.Candidates.{more_there}
 use Rattle.pt_laws.proofs.Home.{home_in_turn}
-use Rattle.pt_types.specs.Limits.{most_claims}
 
 -- paths
-pub goes_on : (g : Graph) (x y a : Part) (p q : List Edge) → Goes g x p y → Goes g y q a → Goes g x (p ++ q) a
+pub goes_on : (g : Graph) (x y a : Unit) (p q : List Edge) → Goes g x p y → Goes g y q a → Goes g x (p ++ q) a
 goes_on g x y a [] q h k = subst (λ z. Goes g z q a) (sym h) k
 goes_on g x y a (e ∷ p) q (m, src, rest) k = (m, src, goes_on g (target g e) y a p q rest k)
 
@@ -62,17 +61,17 @@ pub sum_on : (p q : List Edge) → (sum_along (p ++ q)).time ≡ (sum_along p).t
 sum_on [] q = omega arith
 sum_on (e ∷ p) q = let ih : (sum_along (p ++ q)).time ≡ (sum_along p).time + (sum_along q).time = sum_on p q in omega arith
 
-pub goes_home : (g : Graph) → IsWired g → (path : List Edge) (x a : Part) → Goes g x path a → platform_of g x.actor ≡ platform_of g a.actor
-goes_home g wired [] x a h = ap (λ (z : Part). platform_of g z.actor) h
+pub goes_home : (g : Graph) → IsWired g → (path : List Edge) (x a : Unit) → Goes g x path a → platform_of g x.actor ≡ platform_of g a.actor
+goes_home g wired [] x a h = ap (λ (z : Unit). platform_of g z.actor) h
 goes_home g wired (e ∷ path) x a (mem, src, rest) =
-    ap (λ (z : Part). platform_of g z.actor) (sym src) ∙ wired.at_home e mem ∙ goes_home g wired path (target g e) a rest
+    ap (λ (z : Unit). platform_of g z.actor) (sym src) ∙ wired.at_home e mem ∙ goes_home g wired path (target g e) a rest
 
-path_rises : (g : Graph) (level : ℕ → ℕ) → HasLevels g level → (path : List Edge) (x a : Part) → Goes g x path a → x ≢ a → (sum_along path).time ≡ 0 → level x.actor < level a.actor
+path_rises : (g : Graph) (level : ℕ → ℕ) → HasLevels g level → (path : List Edge) (x a : Unit) → Goes g x path a → x ≢ a → (sum_along path).time ≡ 0 → level x.actor < level a.actor
 path_rises g level up [] x a go ne z = absurd (ne go)
 path_rises g level up (e ∷ path) x a (mem, src, go) ne z =
     let here : level e.from < level e.to = up e (IsIn-append_left e (wires g) (links g) mem) (omega arith) in
     let rest : level e.to ≤ level a.actor = path_grows g level up path (target g e) a go (omega arith) in
-    let es : level e.from ≡ level x.actor = ap (λ (w : Part). level w.actor) src in
+    let es : level e.from ≡ level x.actor = ap (λ (w : Unit). level w.actor) src in
     omega arith
 
 pub cases_before : (t u : Tag) → Before t u ⊎ UpTo u t
@@ -95,25 +94,25 @@ lower_path : (w t : Tag) (d : Delay) (m k : ℕ) → UpTo (plus w d) t → (d.ti
 lower_path w t d m k h up = grind arith
 
 -- no row and no message comes to u at t or before, from reading r on
-abbrev pub IsMet : Graph → ℕ → Part → Tag → Type 0
+abbrev pub IsMet : Graph → ℕ → Unit → Tag → Type 0
 IsMet g r u t = (a b : ℕ) (path : List Edge) → Feeds g a b path u → t.time + b < r + (sum_along path).time
 
 -- where nothing is open and nothing is safe, no event waits that nothing can come before
-pub nothing_met : (g : Graph) (level : ℕ → ℕ) (s : State) (r : ℕ) → HasLevels g level → ((u : Part) → s.busy u ≡ None) → NothingSafe g s.waits s.busy r → (u : Part) (t : Tag) → HasEvent g s.waits u t → IsMet g r u t → ⊥
+pub nothing_met : (g : Graph) (level : ℕ → ℕ) (s : State) (r : ℕ) → HasLevels g level → ((u : Unit) → s.busy u ≡ None) → NothingSafe g s.waits s.busy r → (u : Unit) (t : Tag) → HasEvent g s.waits u t → IsMet g r u t → ⊥
 nothing_met g level s r up free none u t event met =
-    by_three (λ x y z. (v : Part) (w : Tag) → w.time ≡ x → w.step ≡ y → level v.actor ≡ z → HasEvent g s.waits v w → IsMet g r v w → ⊥)
+    by_three (λ x y z. (v : Unit) (w : Tag) → w.time ≡ x → w.step ≡ y → level v.actor ≡ z → HasEvent g s.waits v w → IsMet g r v w → ⊥)
     (λ x y z rest v w ex ey ez. one x y z rest v w ex ey ez)
     t.time t.step (level u.actor) u t refl refl refl event met
   where
-    of_same : (x y z : ℕ) (v : Part) (w k : Tag) → w.time ≡ x → w.step ≡ y → level v.actor ≡ z → Before k w → Lower k.time k.step (level v.actor) x y z
+    of_same : (x y z : ℕ) (v : Unit) (w k : Tag) → w.time ≡ x → w.step ≡ y → level v.actor ≡ z → Before k w → Lower k.time k.step (level v.actor) x y z
     of_same x y z v w k ex ey ez b =
         subst (λ n. Lower k.time k.step (level v.actor) n y z) ex (subst (λ n. Lower k.time k.step (level v.actor) w.time n z) ey (subst (λ n. Lower k.time k.step (level v.actor) w.time w.step n) ez (lower_same k w (level v.actor) b)))
 
-    of_path : (x y z : ℕ) (v o : Part) (w k : Tag) (d : Delay) → w.time ≡ x → w.step ≡ y → level v.actor ≡ z → UpTo (plus k d) w → (d.time ≡ 0 → level o.actor < level v.actor) → Lower k.time k.step (level o.actor) x y z
+    of_path : (x y z : ℕ) (v o : Unit) (w k : Tag) (d : Delay) → w.time ≡ x → w.step ≡ y → level v.actor ≡ z → UpTo (plus k d) w → (d.time ≡ 0 → level o.actor < level v.actor) → Lower k.time k.step (level o.actor) x y z
     of_path x y z v o w k d ex ey ez le lt =
         subst (λ n. Lower k.time k.step (level o.actor) n y z) ex (subst (λ n. Lower k.time k.step (level o.actor) w.time n z) ey (subst (λ n. Lower k.time k.step (level o.actor) w.time w.step n) ez (lower_path k w d (level o.actor) (level v.actor) le lt)))
 
-    one : (x y z : ℕ) → ((a b c : ℕ) → Lower a b c x y z → (v : Part) (w : Tag) → w.time ≡ a → w.step ≡ b → level v.actor ≡ c → HasEvent g s.waits v w → IsMet g r v w → ⊥) → (v : Part) (w : Tag) → w.time ≡ x → w.step ≡ y → level v.actor ≡ z → HasEvent g s.waits v w → IsMet g r v w → ⊥
+    one : (x y z : ℕ) → ((a b c : ℕ) → Lower a b c x y z → (v : Unit) (w : Tag) → w.time ≡ a → w.step ≡ b → level v.actor ≡ c → HasEvent g s.waits v w → IsMet g r v w → ⊥) → (v : Unit) (w : Tag) → w.time ≡ x → w.step ≡ y → level v.actor ≡ z → HasEvent g s.waits v w → IsMet g r v w → ⊥
     one x y z rest v w ex ey ez ev met_v = none v w (record {
       event = ev;
       free = free v;
@@ -141,7 +140,7 @@ nothing_met g level s r up free none u t event met =
 -- what a turn leaves as it was, up to its claims
 pub record Grown (s z : State) : Type 0 where
   pub waits : (a p : ℕ) (t : Tag) (v : ℤ) → s.waits a p t ≡ Some v → z.waits a p t ≡ Some v
-  pub busy : (u : Part) → z.busy u ≡ s.busy u
+  pub busy : (u : Unit) → z.busy u ≡ s.busy u
   pub outbox : (l : ℕ) → z.outbox l ≡ s.outbox l
   pub closed : z.closed ≡ s.closed
 
@@ -160,7 +159,7 @@ takes_grown g level i (m ∷ ms) late s z new k (link, at, home, orderly, next) 
     subst (Grown s) (sym off.3) (record { busy = k.busy; outbox = k.outbox; closed = k.closed; waits = k.waits }))
     next
 
-pub grown_event : (g : Graph) (s z : State) (u : Part) (t : Tag) → Grown s z → HasEvent g s.waits u t → HasEvent g z.waits u t
+pub grown_event : (g : Graph) (s z : State) (u : Unit) (t : Tag) → Grown s z → HasEvent g s.waits u t → HasEvent g z.waits u t
 grown_event g s z u t k h =
     more_there (λ p. when (input_group (kind_of g u.actor) p == u.group) (s.waits u.actor p t)) (λ p. when (input_group (kind_of g u.actor) p == u.group) (z.waits u.actor p t))
     (λ p v e. keep (input_group (kind_of g u.actor) p == u.group) (s.waits u.actor p t) (z.waits u.actor p t) v (λ q. k.waits u.actor p t v q) e) h
@@ -253,7 +252,7 @@ closing_bounds g i c r how le x b home bound =
     how
 
 module _ (g : Graph) (level : ℕ → ℕ) (i : ℕ) (rows : ℕ → List Row) (turns : List Turn) (turn : Turn) (s new : State) (wired : IsWired g) (up : HasLevels g level) (fits : FitRows g rows) (legal : Legal g level i (opened g i rows) turns s)
-    (open_still : s.closed ≡ false) (sent_all : (l : ℕ) → s.outbox l ≡ []) (is : IsTurn g level i s turn false new) (handed : (u : Part) → is.posted.busy u ≡ None) where
+    (open_still : s.closed ≡ false) (sent_all : (l : ℕ) → s.outbox l ≡ []) (is : IsTurn g level i s turn false new) (handed : (u : Unit) → is.posted.busy u ≡ None) where
   grown : turn.posted ≡ [] → Grown s (raised is.got turn.last)
   grown none =
       let same : is.posted ≡ s = subst (λ z. Posts g s z is.posted) none is.posts in
@@ -261,7 +260,7 @@ module _ (g : Graph) (level : ℕ → ℕ) (i : ℕ) (rows : ℕ → List Row) (
       let got = takes_grown g level i turn.taken false s (after_rows is.posted turn.last) is.got begin is.takes in
       record { waits = got.waits; busy = got.busy; outbox = got.outbox; closed = got.closed }
 
-  free_then : turn.posted ≡ [] → (u : Part) → is.got.busy u ≡ None
+  free_then : turn.posted ≡ [] → (u : Unit) → is.got.busy u ≡ None
   free_then none u =
       let same : is.posted ≡ s = subst (λ z. Posts g s z is.posted) none is.posts in
       (grown none).busy u ∙ ap (λ (z : State). z.busy u) (sym same) ∙ handed u
@@ -277,9 +276,9 @@ module _ (g : Graph) (level : ℕ → ℕ) (i : ℕ) (rows : ℕ → List Row) (
       let sound = legal_sound g level i turns (opened g i rows) s (λ u. []) wired up (opened_sound g i rows fits) legal in
       let fit : FitsRow g row.0 row.1 = sound.rest.fit row.0 row.1 (subst (IsIn row.1) (sym row.3) (inl refl)) in
       some_due g fit.file turn.last row.0 fit.bound s.left row.1 row.2 fit.sensor row.3 (subst (λ n. n ≤ turn.last) row.4 le) (sym is.rows ∙ none_entered))
-      (λ (rest : ((u : Part) × (t : Tag) × HasEvent g s.waits u t × ((w : Tag) → HasEvent g s.waits u w → UpTo t w) × (s.busy u ≡ None) × IsPaced g u t c) ⊎ IsClosing g i c).
+      (λ (rest : ((u : Unit) × (t : Tag) × HasEvent g s.waits u t × ((w : Tag) → HasEvent g s.waits u w → UpTo t w) × (s.busy u ≡ None) × IsPaced g u t c) ⊎ IsClosing g i c).
       ⊎_elim
-      (λ (event : (u : Part) × (t : Tag) × HasEvent g s.waits u t × ((w : Tag) → HasEvent g s.waits u w → UpTo t w) × (s.busy u ≡ None) × IsPaced g u t c).
+      (λ (event : (u : Unit) × (t : Tag) × HasEvent g s.waits u t × ((w : Tag) → HasEvent g s.waits u w → UpTo t w) × (s.busy u ≡ None) × IsPaced g u t c).
       nothing_met g level ready turn.last up free no_safe event.0 event.1 (grown_event g s ready event.0 event.1 (grown none_posted) event.2)
       (λ a b path feeds. paced_meets g event.0 event.1 c turn.last event.5 le a b path feeds))
       (λ (closing : IsClosing g i c). closes_then closing)
@@ -292,7 +291,7 @@ module _ (g : Graph) (level : ℕ → ℕ) (i : ℕ) (rows : ℕ → List Row) (
       no_safe : NothingSafe g ready.waits ready.busy turn.last
       no_safe = subst (λ z. NothingSafe g z.waits z.busy turn.last) (ready_is none_claimed) nothing
 
-      free : (u : Part) → ready.busy u ≡ None
+      free : (u : Unit) → ready.busy u ≡ None
       free u = free_then none_posted u
 
       closes_then : IsClosing g i c → ⊥
@@ -333,7 +332,7 @@ turns_move g level i rows turns turn s new c wired are fits legal open_still sen
     let never : NothingSafe g is.ready.waits is.ready.busy turn.last → ⊥ = moves g level i rows turns turn s new wired up fits legal open_still sent_all is handed c next le p e k (λ t. false≢true (sym f ∙ t)) in
     ⊎_elim
     (λ (l : false ≡ true). absurd (false≢true l))
-    (λ (o : NothingSafe g is.ready.waits is.ready.busy turn.last ⊎ (most_claims ≤ s.claims)). ⊎_elim (λ (n : NothingSafe g is.ready.waits is.ready.busy turn.last). absurd (never n)) (λ (many : most_claims ≤ s.claims). Full many never) o)
+    (λ (o : NothingSafe g is.ready.waits is.ready.busy turn.last ⊎ (g.claims ≤ s.claims)). ⊎_elim (λ (n : NothingSafe g is.ready.waits is.ready.busy turn.last). absurd (never n)) (λ (many : g.claims ≤ s.claims). Full many never) o)
     (is.greedy k))
     (cases_Bool new.closed))
     (λ (k : turn.claimed ≡ [] → ⊥). Claimed k)

@@ -4,7 +4,7 @@ use Rattle.std.proofs.lemmas.Bool.{cases_lt, and_parts, cases_Bool, false≢true
 use Rattle.pt_types.specs.declared.graph.Graph.{Graph}
 use Rattle.pt_types.specs.declared.graph.Link.{Link}
 use Rattle.pt_tags.specs.declared.tag.Tag.{Tag}
-use Rattle.pt_types.specs.declared.graph.Unit.{Unit as Part}
+use Rattle.pt_types.specs.declared.graph.Unit.{Unit}
 use Rattle.pt_tags.specs.Tags.{Before, UpTo}
 use Rattle.pt_semantics.specs.Lists.{IsIn}
 use Rattle.pt_types.specs.Lookups.{platform_of}
@@ -40,10 +40,9 @@ use Rattle.pt_laws.proofs.Home.{Home, home_on_time}
 use Rattle.pt_laws.proofs.PacedClosed.{paced_earlier}
 use Rattle.pt_laws.proofs.Onward.{OnwardNear}
 use Rattle.pt_laws.proofs.Paces.{Later}
-use Rattle.pt_types.specs.Limits.{most_claims}
 
 -- an event waits no sooner than its unit's least event, which is a candidate
-pub no_sooner : (g : Graph) (i : ℕ) (s : State) (b : ℕ) (offset : Part → Option ℤ) (u : Part) → HasOffset g u (offset u) → s.busy u ≡ None → ((d : ℕ) → IsCandidate g i s d → b ≤ d) → (t : Tag) → HasEvent g s.waits u t → b ≤ paced_by (offset u) t
+pub no_sooner : (g : Graph) (i : ℕ) (s : State) (b : ℕ) (offset : Unit → Option ℤ) (u : Unit) → HasOffset g u (offset u) → s.busy u ≡ None → ((d : ℕ) → IsCandidate g i s d → b ≤ d) → (t : Tag) → HasEvent g s.waits u t → b ≤ paced_by (offset u) t
 no_sooner g i s b offset u has free least t event =
     ⊎_elim
     (λ (low : paced_by (offset u) t < b). absurd (never t event low))
@@ -81,8 +80,8 @@ no_sooner g i s b offset u has free least t event =
     never w ev low = by_three (λ x y z. (k : Tag) → k.time ≡ x → k.step ≡ y → 0 ≡ z → HasEvent g s.waits u k → paced_by (offset u) k < b → ⊥) one w.time w.step 0 w refl refl refl ev low
 
 -- where a platform has nothing open and nothing to send, what it has still to do is not before its candidates
-pub later_from : (g : Graph) (level : ℕ → ℕ) (i : ℕ) (rows : ℕ → List Row) (turns : List Turn) (s : State) (b : ℕ) (offset : Part → Option ℤ) → ((u : Part) → HasOffset g u (offset u)) → IsWired g → HasLevels g level → FitRows g rows → LegalOnTime g level i (opened g i rows) turns s →
-    ((u : Part) → s.busy u ≡ None) → ((l : ℕ) → s.outbox l ≡ []) → ((p : ℕ) → s.reading ≡ Some p → p ≤ b) → (s.closed ≡ false → (d : ℕ) → IsCandidate g i s d → b ≤ d) → Later g offset b i s
+pub later_from : (g : Graph) (level : ℕ → ℕ) (i : ℕ) (rows : ℕ → List Row) (turns : List Turn) (s : State) (b : ℕ) (offset : Unit → Option ℤ) → ((u : Unit) → HasOffset g u (offset u)) → IsWired g → HasLevels g level → FitRows g rows → LegalOnTime g level i (opened g i rows) turns s →
+    ((u : Unit) → s.busy u ≡ None) → ((l : ℕ) → s.outbox l ≡ []) → ((p : ℕ) → s.reading ≡ Some p → p ≤ b) → (s.closed ≡ false → (d : ℕ) → IsCandidate g i s d → b ≤ d) → Later g offset b i s
 later_from g level i rows turns s b offset has wired up fits legal free sent reading least = record {
   waits = λ a p t v h.
       let at = home.waits a p t v h in (
@@ -131,13 +130,13 @@ nothing_in (x ∷ xs) h = absurd (false≢true h)
 
 -- a platform after its turn in a quiet round
 pub record Rests (g : Graph) (c i : ℕ) (s : State) (way : ℕ → List Message) : Type 0 where
-  pub free : (u : Part) → s.busy u ≡ None
+  pub free : (u : Unit) → s.busy u ≡ None
   pub unsafe : (NothingSafe g s.waits s.busy c → ⊥) → ⊥
   pub stays_open : s.closed ≡ false → CanClose g i s c → ⊥
   pub took_all : (l : ℕ) (link : Link) → slice_get g.links l ≡ Some link → platform_of g link.to ≡ i → way l ≡ []
   pub sent_all : (l : ℕ) → (s.outbox l ≡ []) ⊎ (way l ≡ [] → ⊥)
 
-safe_as : (g : Graph) (s : State) (outbox : ℕ → List Message) (r : ℕ) (u : Part) (t : Tag) → IsSafe g (unsent s outbox).waits (unsent s outbox).busy r u t → IsSafe g s.waits s.busy r u t
+safe_as : (g : Graph) (s : State) (outbox : ℕ → List Message) (r : ℕ) (u : Unit) (t : Tag) → IsSafe g (unsent s outbox).waits (unsent s outbox).busy r u t → IsSafe g s.waits s.busy r u t
 safe_as g s outbox r u t k = record { event = k.event; least = k.least; free = k.free; bounds = k.bounds; events = k.events; claims = k.claims }
 
 takes_busy : (g : Graph) (level : ℕ → ℕ) (i : ℕ) (s new : State) → Takes g level i s [] false new → new ≡ s
@@ -241,10 +240,10 @@ quiet_visit g level most room c x y m full quiet on_time fine closed k = (
     no_safe h =
         ⊎_elim
         (λ (l : m.late ≡ true). false≢true (sym on_time ∙ l))
-        (λ (o : NothingSafe g k.is.ready.waits k.is.ready.busy m.turn.last ⊎ (most_claims ≤ (x.at m.platform).claims)).
+        (λ (o : NothingSafe g k.is.ready.waits k.is.ready.busy m.turn.last ⊎ (g.claims ≤ (x.at m.platform).claims)).
         ⊎_elim
         (λ (n : NothingSafe g k.is.ready.waits k.is.ready.busy m.turn.last). h (subst (λ r. NothingSafe g k.is.ready.waits k.is.ready.busy r) k.last n))
-        (λ (many : most_claims ≤ (x.at m.platform).claims). false≢true (sym fine ∙ k.faults.0 (inr (many, h))))
+        (λ (many : g.claims ≤ (x.at m.platform).claims). false≢true (sym fine ∙ k.faults.0 (inr (many, h))))
         o)
         (k.is.greedy claimed_none)
 
@@ -256,8 +255,8 @@ quiet_makes g level c x y m quiet on_time fine closed k = quiet_visit g level 64
     full (z ∷ zs) e none = cc
 
 -- platforms that have nothing open and nothing to send go on to later readings, up to what they have still to do
-module _ (g : Graph) (level : ℕ → ℕ) (rows : ℕ → List Row) (offset : Part → Option ℤ) (has : (u : Part) → HasOffset g u (offset u)) (wired : IsWired g) (up : HasLevels g level) (fits : FitRows g rows) where
-  pub raise_near : (c b : ℕ → ℕ) (y : Together) → OnwardNear g level rows offset c y → ((i : ℕ) → i < length g.platforms → c i ≤ b i) → ((i : ℕ) → i < length g.platforms → (u : Part) → (y.at i).busy u ≡ None) → ((i : ℕ) → i < length g.platforms → (l : ℕ) → (y.at i).outbox l ≡ []) →
+module _ (g : Graph) (level : ℕ → ℕ) (rows : ℕ → List Row) (offset : Unit → Option ℤ) (has : (u : Unit) → HasOffset g u (offset u)) (wired : IsWired g) (up : HasLevels g level) (fits : FitRows g rows) where
+  pub raise_near : (c b : ℕ → ℕ) (y : Together) → OnwardNear g level rows offset c y → ((i : ℕ) → i < length g.platforms → c i ≤ b i) → ((i : ℕ) → i < length g.platforms → (u : Unit) → (y.at i).busy u ≡ None) → ((i : ℕ) → i < length g.platforms → (l : ℕ) → (y.at i).outbox l ≡ []) →
       ((i : ℕ) → i < length g.platforms → (y.at i).closed ≡ false → (d : ℕ) → IsCandidate g i (y.at i) d → b i ≤ d) →
       ((l : ℕ) (link : Link) (t : Tag) (v : ℤ) → slice_get g.links l ≡ Some link → IsIn (Event t v) (y.on_way l) → b (platform_of g link.to) ≤ t.time + link_bound g link) → OnwardNear g level rows offset b y
   raise_near c b y h rises free sent next way = record {

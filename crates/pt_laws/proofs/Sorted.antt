@@ -4,7 +4,7 @@ use Rattle.std.proofs.lemmas.Bool.{cases_Bool, cond-true, cond-false, and_parts}
 use Rattle.std.proofs.lemmas.List.Elements.{filter_map-append}
 use Rattle.std.specs.List.{cons_option}
 use Rattle.pt_types.specs.declared.graph.Graph.{Graph}
-use Rattle.pt_types.specs.declared.graph.Unit.{Unit as Part}
+use Rattle.pt_types.specs.declared.graph.Unit.{Unit}
 use Rattle.pt_tags.specs.declared.tag.Tag.{Tag}
 use Rattle.pt_tags.specs.Tags.{tag_lt, plus, Before}
 use Rattle.pt_semantics.specs.Lists.{or_else, IsIn, Each}
@@ -98,7 +98,7 @@ module _ (g : Graph) (rank : ℕ → ℕ) (rows : ℕ → List Row) (wired : IsW
   -- where something comes, the unit fires
   come_fires : (b p : ℕ) (u : Tag) (v : ℤ) → p < 8 → come b p u ≡ Some v → (z : ActorFiring) × IsIn z (zs ++ rest) × HasPart g (at_input g b p) z × (z.tag ≡ u)
   come_fires b p u v lt h =
-      let unit : Part = at_input g b p in
+      let unit : Unit = at_input g b p in
       let present : any_present (unit_inputs g (comes g (opening g rows) all) unit u) ≡ true =
       eight_present (λ q. when (input_group (kind_of g b) q == input_group (kind_of g b) p) (comes g (opening g rows) all b q u)) p v lt
       (when-true (input_group (kind_of g b) p == input_group (kind_of g b) p) (comes g (opening g rows) all b p u) (eq-eqb _ _ refl) ∙ h) in
@@ -207,7 +207,7 @@ module _ (g : Graph) (rank : ℕ → ℕ) (rows : ℕ → List Row) (wired : IsW
       ∙ sym (m.fresh x.actor p x.tag not_yet)
 
   -- the part of a unit of x is what the unit does at its tag
-  part_reacts : (u : Part) → HasPart g u x → Some (the_part (kind_of g u.actor) x (narrow g u x)) ≡ reaction g (opening g rows) whole u x.tag
+  part_reacts : (u : Unit) → HasPart g u x → Some (the_part (kind_of g u.actor) x (narrow g u x)) ≡ reaction g (opening g rows) whole u x.tag
   part_reacts u has =
       sym (rising_at (whole u) (the_part (kind_of g u.actor) x (narrow g u x)) (behaves.rising u) (part_in g u (zs ++ x ∷ rest) x x_in has)) ∙ behaves.reacts u x.tag tt
 
@@ -224,7 +224,7 @@ module _ (g : Graph) (rank : ℕ → ℕ) (rows : ℕ → List Row) (wired : IsW
       ∙ when-true (u.group == u.group) (comes g (opening g rows) whole x.actor p x.tag) (eq-eqb u.group u.group refl))
       (part_cases g u x)
     where
-      u : Part
+      u : Unit
       u = at_input g x.actor p
 
       has_from : any_present (narrow g u x) ≡ true → HasPart g u x
@@ -253,7 +253,7 @@ module _ (g : Graph) (rank : ℕ → ℕ) (rows : ℕ → List Row) (wired : IsW
   before_x =
       let at = eight_found (λ p. at_port x.inputs p) (ap any_present (sym full.ports) ∙ full.present) in
       let p : ℕ = at.0 in
-      let u : Part = at_input g x.actor p in
+      let u : Unit = at_input g x.actor p in
       let here : any_present (narrow g u x) ≡ true =
       eight_present (λ q. when (input_group (kind_of g x.actor) q == u.group) (at_port x.inputs q)) p at.1 at.2 (when-true (u.group == u.group) (at_port x.inputs p) (eq-eqb u.group u.group refl) ∙ at.3) in
       let has : HasPart g u x = record {
@@ -271,7 +271,7 @@ module _ (g : Graph) (rank : ℕ → ℕ) (rows : ℕ → List Row) (wired : IsW
       (each_below u refl (parts g zs u) (λ y mem. mem))
       ∙ sym (m.states_are x.actor p)
     where
-      below : (u : Part) → u.actor ≡ x.actor → (y : Firing) → IsIn y (parts g zs u) → Before y.tag x.tag
+      below : (u : Unit) → u.actor ≡ x.actor → (y : Firing) → IsIn y (parts g zs u) → Before y.tag x.tag
       below u e y mem =
           let from = in_parts g u zs y mem in
           let z : ActorFiring = from.0 in
@@ -279,7 +279,7 @@ module _ (g : Graph) (rank : ℕ → ℕ) (rows : ℕ → List Row) (wired : IsW
           let s : Sooner rank z.tag x.actor x.tag x.actor = subst (λ a. Sooner rank z.tag a x.tag x.actor) same (ordered_front rank zs x rest ordered z from.1) in
           subst (λ (v : Firing). Before v.tag x.tag) (sym from.3) (sooner_same z.tag x.tag x.actor (rank x.actor) s)
 
-      each_below : (u : Part) → u.actor ≡ x.actor → (ys : List Firing) → ((y : Firing) → IsIn y ys → IsIn y (parts g zs u)) → Each (λ (y : Firing). Before y.tag x.tag) ys
+      each_below : (u : Unit) → u.actor ≡ x.actor → (ys : List Firing) → ((y : Firing) → IsIn y ys → IsIn y (parts g zs u)) → Each (λ (y : Firing). Before y.tag x.tag) ys
       each_below u e [] sub = tt
       each_below u e (y ∷ ys) sub = (below u e y (sub y (inl refl)), each_below u e ys (λ z mem. sub z (inr mem)))
 

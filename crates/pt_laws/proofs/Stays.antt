@@ -4,7 +4,7 @@ use Rattle.std.proofs.lemmas.Bool.{and_parts}
 use Rattle.pt_types.specs.declared.graph.Graph.{Graph}
 use Rattle.pt_types.specs.declared.graph.Link.{Link}
 use Rattle.pt_tags.specs.declared.tag.Tag.{Tag}
-use Rattle.pt_types.specs.declared.graph.Unit.{Unit as Part}
+use Rattle.pt_types.specs.declared.graph.Unit.{Unit}
 use Rattle.pt_tags.specs.Tags.{Before, UpTo, plus, zero_delay, same_tag}
 use Rattle.pt_types.specs.Ports.{when}
 use Rattle.pt_semantics.specs.Lists.{or_else, IsIn}
@@ -49,14 +49,14 @@ use Rattle.pt_laws.proofs.Once.{absent}
 use Rattle.pt_laws.proofs.Candidates.{keeps_safe, others_stay, more_there}
 
 -- new values come past t along each path to u
-abbrev pub IsBeyond : Graph → Part → Tag → Values → Type 0
+abbrev pub IsBeyond : Graph → Unit → Tag → Values → Type 0
 IsBeyond g u t new = (a p : ℕ) (w : Tag) (v : ℤ) (path : List Edge) → new a p w ≡ Some v → Goes g (at_input g a p) path u → Before t (plus w (sum_along path))
 
 up_to : (t w : Tag) → Before t (plus w zero_delay) → UpTo t w
 up_to t w h = omega arith
 
 -- what comes in past it leaves a unit safe
-arrive_safe : (g : Graph) (s : State) (r : ℕ) (u : Part) (t : Tag) (new : Values) → IsBeyond g u t new → IsSafe g s.waits s.busy r u t → IsSafe g (added s.waits new) s.busy r u t
+arrive_safe : (g : Graph) (s : State) (r : ℕ) (u : Unit) (t : Tag) (new : Values) → IsBeyond g u t new → IsSafe g s.waits s.busy r u t → IsSafe g (added s.waits new) s.busy r u t
 arrive_safe g s r u t new past k = record {
   event = more_there (λ p. when (input_group (kind_of g u.actor) p == u.group) (s.waits u.actor p t)) (λ p. when (input_group (kind_of g u.actor) p == u.group) (added s.waits new u.actor p t))
       (λ p v e. keep (input_group (kind_of g u.actor) p == u.group) (s.waits u.actor p t) (new u.actor p t) v e) k.event;
@@ -83,7 +83,7 @@ arrive_safe g s r u t new past k = record {
     keep false x y v h = absurd (none_some v h)
 
 -- nor does it change the inputs
-arrive_inputs : (g : Graph) (waits : Values) (u : Part) (t : Tag) (new : Values) → IsBeyond g u t new → unit_inputs g (added waits new) u t ≡ unit_inputs g waits u t
+arrive_inputs : (g : Graph) (waits : Values) (u : Unit) (t : Tag) (new : Values) → IsBeyond g u t new → unit_inputs g (added waits new) u t ≡ unit_inputs g waits u t
 arrive_inputs g waits u t new past =
     eight_below
     (λ p. when (input_group (kind_of g u.actor) p == u.group) (added waits new u.actor p t))
@@ -96,7 +96,7 @@ arrive_inputs g waits u t new past =
     ap (or_else (waits u.actor p t)) none ∙ or_else_none (waits u.actor p t)))
 
 -- the changes of a turn, one by one
-posted_beyond : (g : Graph) (s : State) (r : ℕ) (u : Part) (t : Tag) (w : Part) (task : Task) (outputs : List (Option ℤ)) → IsSafe g s.waits s.busy r u t → s.busy w ≡ Some task → IsBeyond g u t (going g (wires g) (leaves_unit g w) task.tag outputs)
+posted_beyond : (g : Graph) (s : State) (r : ℕ) (u : Unit) (t : Tag) (w : Unit) (task : Task) (outputs : List (Option ℤ)) → IsSafe g s.waits s.busy r u t → s.busy w ≡ Some task → IsBeyond g u t (going g (wires g) (leaves_unit g w) task.tag outputs)
 posted_beyond g s r u t w task outputs k busy a p z v path found go =
     let went = going_found g (wires g) (leaves_unit g w) task.tag outputs a p z v found in
     let e : Edge = went.edge in
@@ -105,7 +105,7 @@ posted_beyond g s r u t w task outputs k busy a p z v path found go =
     subst (λ y. Before t (plus y (sum_along path))) went.when_is
     (subst (λ y. Before t y) (sym (plus_then task.tag e.weight (sum_along path))) (k.claims w task (e ∷ path) busy (went.mem, src, on)))
 
-rows_beyond : (g : Graph) (s : State) (r : ℕ) (u : Part) (t : Tag) (rows : ℕ → List Row) → IsSafe g s.waits s.busy r u t → ((a : ℕ) (row : Row) → IsIn row (rows a) → FitsRow g a row × (r ≤ row.seen)) → IsBeyond g u t (row_values rows)
+rows_beyond : (g : Graph) (s : State) (r : ℕ) (u : Unit) (t : Tag) (rows : ℕ → List Row) → IsSafe g s.waits s.busy r u t → ((a : ℕ) (row : Row) → IsIn row (rows a) → FitsRow g a row × (r ≤ row.seen)) → IsBeyond g u t (row_values rows)
 rows_beyond g s r u t rows k fresh a p w v path found go =
     let here = when_found (p == 0) _ v found in
     let at = first_of_found _ (rows a) v here.1 in
@@ -116,7 +116,7 @@ rows_beyond g s r u t rows k fresh a p w v path found go =
     subst (λ z. Before t (plus z (sum_along path))) et
     (past_reading t (at_time row.time) (sum_along path) r f.0.bound row.seen (k.bounds a f.0.bound path feeds) f.1 f.0.in_time)
 
-message_beyond : (g : Graph) (s : State) (r p : ℕ) (u : Part) (t : Tag) (l : ℕ) (link : Link) (m : Message) → IsWired g → IsSafe g s.waits s.busy r u t → s.reading ≡ Some p → r ≤ p → slice_get g.links l ≡ Some link → IsOnTime s.reading (link_bound g link) m → IsBeyond g u t (message_values link m)
+message_beyond : (g : Graph) (s : State) (r p : ℕ) (u : Unit) (t : Tag) (l : ℕ) (link : Link) (m : Message) → IsWired g → IsSafe g s.waits s.busy r u t → s.reading ≡ Some p → r ≤ p → slice_get g.links l ≡ Some link → IsOnTime s.reading (link_bound g link) m → IsBeyond g u t (message_values link m)
 message_beyond g s r p u t l link End wired k reading le at ok a q w v path found go = absurd (none_some v (when_found (a == link.to && q == 0) _ v found).1)
 message_beyond g s r p u t l link (Event tag value) wired k reading le at ok a q w v path found go =
     let here = when_found (a == link.to && q == 0) _ v found in
@@ -129,7 +129,7 @@ message_beyond g s r p u t l link (Event tag value) wired k reading le at ok a q
     (past_reading t tag (sum_along path) r (link_bound g link) p (k.bounds link.to (link_bound g link) path feeds) le timely)
 
 -- safe at a reading, safe at each later one
-pub safe_later : (g : Graph) (s : State) (r q : ℕ) (u : Part) (t : Tag) → r ≤ q → IsSafe g s.waits s.busy r u t → IsSafe g s.waits s.busy q u t
+pub safe_later : (g : Graph) (s : State) (r q : ℕ) (u : Unit) (t : Tag) → r ≤ q → IsSafe g s.waits s.busy r u t → IsSafe g s.waits s.busy q u t
 safe_later g s r q u t le k = record {
   event = k.event;
   least = k.least;
@@ -140,23 +140,23 @@ safe_later g s r q u t le k = record {
 }
 
 -- a safe unit after a reading at which it was safe, with these inputs
-pub record Safe (g : Graph) (r : ℕ) (u : Part) (t : Tag) (inputs : List (Option ℤ)) (s : State) : Type 0 where
+pub record Safe (g : Graph) (r : ℕ) (u : Unit) (t : Tag) (inputs : List (Option ℤ)) (s : State) : Type 0 where
   pub last : ℕ
   pub reading : s.reading ≡ Some last
   pub since : r ≤ last
   pub safe : IsSafe g s.waits s.busy r u t
   pub inputs_are : unit_inputs g s.waits u t ≡ inputs
 
-abbrev pub ClaimedAt : Part → Tag → List (Option ℤ) → Firings → Type 0
+abbrev pub ClaimedAt : Unit → Tag → List (Option ℤ) → Firings → Type 0
 ClaimedAt u t inputs c = (x : Firing) × IsIn x (c u) × (x.tag ≡ t) × (x.inputs ≡ inputs)
 
-abbrev pub Stays : Graph → ℕ → Part → Tag → List (Option ℤ) → State → Firings → Type 0
+abbrev pub Stays : Graph → ℕ → Unit → Tag → List (Option ℤ) → State → Firings → Type 0
 Stays g r u t inputs s c = ClaimedAt u t inputs c ⊎ Safe g r u t inputs s
 
 same_least : (t w : Tag) → UpTo t w → UpTo w t → t ≡ w
 same_least t w h k = grind arith
 
-module _ (g : Graph) (r : ℕ) (u : Part) (t : Tag) (inputs : List (Option ℤ)) where
+module _ (g : Graph) (r : ℕ) (u : Unit) (t : Tag) (inputs : List (Option ℤ)) where
   still : (s : State) (c : Firings) (z : State) → (Safe g r u t inputs s → Safe g r u t inputs z) → Stays g r u t inputs s c → Stays g r u t inputs z c
   still s c z on h = ⊎_elim (λ (a : ClaimedAt u t inputs c). inl a) (λ (b : Safe g r u t inputs s). inr (on b)) h
 
@@ -250,7 +250,7 @@ module _ (g : Graph) (r : ℕ) (u : Part) (t : Tag) (inputs : List (Option ℤ))
       (λ (b : Safe g r u t inputs s). by_claim s c q task reading next b)
       h
     where
-      more_keeps : (c : Firings) (w v : Part) (x y : Firing) → IsIn y (c v) → IsIn y (more c w x v)
+      more_keeps : (c : Firings) (w v : Unit) (x y : Firing) → IsIn y (c v) → IsIn y (more c w x v)
       more_keeps c w v x y mem =
           ⊎_elim
           (λ (e : w ≡ v). subst (IsIn y) (sym (more_same c w v x e)) (IsIn-append_left y (c v) (x ∷ []) mem))
@@ -266,10 +266,10 @@ module _ (g : Graph) (r : ℕ) (u : Part) (t : Tag) (inputs : List (Option ℤ))
     safe = record {
       event = subst (λ (y : Values). HasEvent g y u t) ew k.safe.event;
       least = λ w h. k.safe.least w (subst (λ (y : Values). HasEvent g y u w) (sym ew) h);
-      free = sym (ap (λ (f : Part → Option Task). f u) eb) ∙ k.safe.free;
+      free = sym (ap (λ (f : Unit → Option Task). f u) eb) ∙ k.safe.free;
       bounds = k.safe.bounds;
       events = λ x w path nx h go. k.safe.events x w path nx (subst (λ (y : Values). HasEvent g y x w) (sym ew) h) go;
-      claims = λ x task path b go. k.safe.claims x task path (ap (λ (f : Part → Option Task). f x) eb ∙ b) go;
+      claims = λ x task path b go. k.safe.claims x task path (ap (λ (f : Unit → Option Task). f x) eb ∙ b) go;
     };
     inputs_are = ap (λ (y : Values). unit_inputs g y u t) (sym ew) ∙ k.inputs_are;
   }
@@ -278,11 +278,11 @@ module _ (g : Graph) (r : ℕ) (u : Part) (t : Tag) (inputs : List (Option ℤ))
 before_it : (g : Graph) (level : ℕ → ℕ) (i : ℕ) (rows : ℕ → List Row) (turns : List Turn) (s : State) → IsWired g → HasLevels g level → FitRows g rows → Legal g level i (opened g i rows) turns s → Sound g s s.reading (claims_of g turns)
 before_it g level i rows turns s wired up fits legal = legal_sound g level i turns (opened g i rows) s (λ u. []) wired up (opened_sound g i rows fits) legal
 
-begins : (g : Graph) (s : State) (p r : ℕ) (u : Part) (t : Tag) → s.reading ≡ Some p → r ≤ p → IsSafe g s.waits s.busy r u t → Safe g r u t (unit_inputs g s.waits u t) s
+begins : (g : Graph) (s : State) (p r : ℕ) (u : Unit) (t : Tag) → s.reading ≡ Some p → r ≤ p → IsSafe g s.waits s.busy r u t → Safe g r u t (unit_inputs g s.waits u t) s
 begins g s p r u t reading le safe = record { last = p; reading = reading; since = le; safe = safe; inputs_are = refl }
 
 -- what was claimed before is below
-not_before_it : (g : Graph) (s : State) (c : Firings) (r : ℕ) (u : Part) (t : Tag) (x : Firing) → Floor g s c → IsSafe g s.waits s.busy r u t → IsIn x (c u) → x.tag ≡ t → ⊥
+not_before_it : (g : Graph) (s : State) (c : Firings) (r : ℕ) (u : Unit) (t : Tag) (x : Firing) → Floor g s c → IsSafe g s.waits s.busy r u t → IsIn x (c u) → x.tag ≡ t → ⊥
 not_before_it g s c r u t x f safe mem et = Before-irrefl t (subst (λ z. Before z t) et (claimed_below g s c u t x f safe.event mem))
 
 both : (a b d : ℕ) → a ≤ b → b ≤ d → a ≤ d

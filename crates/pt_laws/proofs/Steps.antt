@@ -6,7 +6,7 @@ use Rattle.pt_tags.specs.declared.tag.Tag.{Tag}
 use Rattle.pt_types.specs.declared.graph.Graph.{Graph}
 use Rattle.pt_types.specs.declared.graph.Link.{Link}
 use Rattle.pt_types.specs.declared.kind.Kind.TheVariants.{Send, Every}
-use Rattle.pt_types.specs.declared.graph.Unit.{Unit as Part}
+use Rattle.pt_types.specs.declared.graph.Unit.{Unit}
 use Rattle.pt_semantics.specs.Lists.{or_else, IsIn}
 use Rattle.pt_types.specs.Ports.{when, at_port}
 use Rattle.pt_semantics.specs.Edges.{wires, links}
@@ -65,7 +65,7 @@ pub record Out (g : Graph) (i : ℕ) (closed : Bool) (outbox sent : ℕ → List
 
 pub record IsShut (g : Graph) (i : ℕ) (s : State) : Type 0 where
   pub waits : (a p : ℕ) (t : Tag) → s.waits a p t ≡ None
-  pub busy : (u : Part) → s.busy u ≡ None
+  pub busy : (u : Unit) → s.busy u ≡ None
   pub left : (a : ℕ) → s.left a ≡ []
   pub late : (l : ℕ) (link : Link) → slice_get g.links l ≡ Some link → platform_of g link.to ≡ i → (r : ℕ) × (s.reading ≡ Some r) × (g.until + link_bound g link < r)
 
@@ -80,7 +80,7 @@ pub record Keeps (g : Graph) (level : ℕ → ℕ) (i : ℕ) (rows : ℕ → Lis
   pub orderly : (l : ℕ) (link : Link) → slice_get g.links l ≡ Some link → IsOrderly g level link (s.taken l)
   pub taken_is : (l : ℕ) → s.taken l ≡ tk l
   -- an actor that begins by itself fires from its start on
-  pub after_start : (u : Part) (x : Firing) (start period : ℕ) → kind_of g u.actor ≡ Every start period → IsIn x (c u) → start ≤ x.tag.time
+  pub after_start : (u : Unit) (x : Firing) (start period : ℕ) → kind_of g u.actor ≡ Every start period → IsIn x (c u) → start ≤ x.tag.time
 
 pub sender_unit : (g : Graph) (a p slack : ℕ) → kind_of g a ≡ Send slack → at_input g a p ≡ at_output g a 0
 sender_unit g a p slack e =
@@ -106,7 +106,7 @@ out_post g i closed outbox sent q task outputs wired never same h = record {
       (λ (other : link.from ≡ task.actor → ⊥).
       ap (λ z. messages_of (q (at_output g link.from 0)) ++ z) (cond-false (link.from == task.actor) (as_message task.tag (at_port outputs 0)) [] (not_same link.from task.actor other))
       ∙ append-nil (messages_of (q (at_output g link.from 0)))
-      ∙ ap messages_of (sym (more_other q (unit_of g task) (at_output g link.from 0) (firing_by g task) (λ e. other (sym (ap (λ (v : Part). v.actor) e))))))
+      ∙ ap messages_of (sym (more_other q (unit_of g task) (at_output g link.from 0) (firing_by g task) (λ e. other (sym (ap (λ (v : Unit). v.actor) e))))))
       (cases_eq link.from task.actor);
   once_shut = λ o l link at home. absurd (never o);
 }
@@ -249,7 +249,7 @@ start_time g k start period t v e h =
     same_tag-true (at_time start) t (and_parts (nat_lt start (suc g.until)) (same_tag (at_time start) t) (when_found (nat_lt start (suc g.until) && same_tag (at_time start) t) (Some (pos 0)) v at).0).1
 
 -- what comes to such an actor comes at its start or later
-pub every_later : (g : Graph) (i : ℕ) (rows left : ℕ → List Row) (taken : ℕ → List Message) (arr : Values) (c q : Firings) (a p start period : ℕ) (t : Tag) (v : ℤ) → IsWired g → kind_of g a ≡ Every start period → Came g i rows left taken arr q → ((u : Part) (x : Firing) → IsIn x (q u) → IsIn x (c u)) → ((u : Part) (x : Firing) (start period : ℕ) → kind_of g u.actor ≡ Every start period → IsIn x (c u) → start ≤ x.tag.time) → arr a p t ≡ Some v → start ≤ t.time
+pub every_later : (g : Graph) (i : ℕ) (rows left : ℕ → List Row) (taken : ℕ → List Message) (arr : Values) (c q : Firings) (a p start period : ℕ) (t : Tag) (v : ℤ) → IsWired g → kind_of g a ≡ Every start period → Came g i rows left taken arr q → ((u : Unit) (x : Firing) → IsIn x (q u) → IsIn x (c u)) → ((u : Unit) (x : Firing) (start period : ℕ) → kind_of g u.actor ≡ Every start period → IsIn x (c u) → start ≤ x.tag.time) → arr a p t ≡ Some v → start ≤ t.time
 every_later g i rows left taken arr c q a p start period t v wired kind came sub later h =
     ⊎_elim
     (λ (s : when (platform_of g a == i && p == 0) (start_at g (kind_of g a) t) ≡ Some v).
@@ -266,20 +266,20 @@ every_later g i rows left taken arr c q a p start period t v wired kind came sub
     let sum : y.0.tag.time + e.0.weight.time ≡ t.time = ap (λ (z : Tag). z.time) tag in omega arith)
     (or_else_found _ _ v (sym (came.inner a p t (every_bound g a start period kind)) ∙ h))
 
-pub posted_claimed : (g : Graph) (busy : Part → Option Task) (states : ℕ → ℤ) (c q : Firings) → Chains g busy states c q → (u : Part) (x : Firing) → IsIn x (q u) → IsIn x (c u)
+pub posted_claimed : (g : Graph) (busy : Unit → Option Task) (states : ℕ → ℤ) (c q : Firings) → Chains g busy states c q → (u : Unit) (x : Firing) → IsIn x (q u) → IsIn x (c u)
 posted_claimed g busy states c q h u x mem = subst (IsIn x) (sym (h.open_is u)) (IsIn-append_left x (q u) (open_list g (busy u)) mem)
 
 -- what waits and was not claimed came
 pub waits_came : (g : Graph) (waits : Values) (c : Firings) (arr : Values) (a p : ℕ) (t : Tag) (v : ℤ) → Held g waits c arr → p < 8 → ((x : Firing) → IsIn x (c (at_input g a p)) → x.tag ≡ t → ⊥) → waits a p t ≡ Some v → arr a p t ≡ Some v
 waits_came g waits c arr a p t v h lt never w = sym (h.fresh a p t lt (firing_at_absent (c (at_input g a p)) t never)) ∙ w
 
-claim_after_start : (g : Graph) (level : ℕ → ℕ) (i : ℕ) (rows : ℕ → List Row) (s : State) (c : Firings) (sent tk : ℕ → List Message) (task : Task) → IsWired g → Floor g s c → HasEvent g s.waits (unit_of g task) task.tag → Keeps g level i rows s c sent tk → (u : Part) (x : Firing) (start period : ℕ) → kind_of g u.actor ≡ Every start period → IsIn x (more c (unit_of g task) (firing_by g task) u) → start ≤ x.tag.time
+claim_after_start : (g : Graph) (level : ℕ → ℕ) (i : ℕ) (rows : ℕ → List Row) (s : State) (c : Firings) (sent tk : ℕ → List Message) (task : Task) → IsWired g → Floor g s c → HasEvent g s.waits (unit_of g task) task.tag → Keeps g level i rows s c sent tk → (u : Unit) (x : Firing) (start period : ℕ) → kind_of g u.actor ≡ Every start period → IsIn x (more c (unit_of g task) (firing_by g task) u) → start ≤ x.tag.time
 claim_after_start g level i rows s c sent tk task wired f event h u x start period kind mem =
     ⊎_elim
     (λ (old : IsIn x (c u)). h.after_start u x start period kind old)
     (λ (new : (unit_of g task ≡ u) × (x ≡ firing_by g task)).
     let at = event_found g s.waits (unit_of g task) task.tag event in
-    let kind_t : kind_of g task.actor ≡ Every start period = ap (λ (v : Part). kind_of g v.actor) new.0 ∙ kind in
+    let kind_t : kind_of g task.actor ≡ Every start period = ap (λ (v : Unit). kind_of g v.actor) new.0 ∙ kind in
     let came : h.arr task.actor at.port task.tag ≡ Some at.value =
     waits_came g s.waits c h.arr task.actor at.port task.tag at.value h.held at.below
     (λ y m e. Before-irrefl task.tag (subst (λ z. Before z task.tag) e (claimed_below g s c (unit_of g task) task.tag y f event (subst (λ z. IsIn y (c z)) at.unit m))))

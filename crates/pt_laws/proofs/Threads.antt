@@ -1,11 +1,12 @@
 -- The firings of one unit hang together: each takes up the state that the one before left.
 use Rattle.std.proofs.Common.{◌≡◌, ℕ, ◌==◌, ◌⊎◌, Bool, true, false, List, [], ◌∷◌, ◌++◌, Option, Some, None, ℤ, refl, sym, ap, ap₂, subst, ◌∙◌, inl, inr, ⊎_elim}
+use Rattle.std.specs.Prelude.{⊤}
 use Rattle.std.proofs.lemmas.Bool.{cases_Bool, cond-true, cond-false}
 use Rattle.pt_tags.specs.declared.tag.Tag.{Tag}
 use Rattle.pt_types.specs.declared.graph.Graph.{Graph}
 use Rattle.pt_types.specs.declared.kind.Kind.{Kind}
 use Rattle.pt_types.specs.declared.kind.Kind.TheVariants.{Lanes}
-use Rattle.pt_types.specs.declared.graph.Unit.{Unit as Part}
+use Rattle.pt_types.specs.declared.graph.Unit.{Unit}
 use Rattle.pt_tags.specs.Tags.{Before, same_tag, tag_lt}
 use Rattle.pt_semantics.specs.Lists.{or_else, IsIn}
 use Rattle.pt_types.specs.Ports.{when}
@@ -29,7 +30,7 @@ pub record IsFiring (kind : Kind) (group : ℕ) (q : ℤ) (x : Firing) : Type 0 
   pub shape : narrowed kind group x.inputs ≡ x.inputs
 
 abbrev pub Threaded : Kind → ℕ → ℤ → List Firing → Type 0
-Threaded kind group q [] = Unit {0}
+Threaded kind group q [] = ⊤
 Threaded kind group q (x ∷ xs) = IsFiring kind group q x × Threaded kind group x.after xs
 
 abbrev pub last_state : ℤ → List Firing → ℤ
@@ -119,7 +120,7 @@ when_twice true x = refl
 when_twice false x = refl
 
 -- a unit's inputs are its own
-pub inputs_shape : (g : Graph) (values : Values) (u : Part) (t : Tag) → narrowed (kind_of g u.actor) u.group (unit_inputs g values u t) ≡ unit_inputs g values u t
+pub inputs_shape : (g : Graph) (values : Values) (u : Unit) (t : Tag) → narrowed (kind_of g u.actor) u.group (unit_inputs g values u t) ≡ unit_inputs g values u t
 inputs_shape g values u t =
     eight_below _ _ (λ p lt.
     ap (when (input_group (kind_of g u.actor) p == u.group)) (at_eight (λ o. when (input_group (kind_of g u.actor) o == u.group) (values u.actor o t)) p lt)

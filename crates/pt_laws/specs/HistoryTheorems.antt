@@ -3,7 +3,7 @@ use Rattle.std.specs.Prelude.{[], ◌∷◌, ◌≡◌, ◌<◌, ◌++◌, ℕ, 
 use Rattle.pt_tags.specs.declared.tag.Tag.{Tag}
 use Rattle.pt_types.specs.declared.graph.Graph.{Graph}
 use Rattle.pt_types.specs.declared.graph.Link.{Link}
-use Rattle.pt_types.specs.declared.graph.Unit.{Unit as Part}
+use Rattle.pt_types.specs.declared.graph.Unit.{Unit}
 use Rattle.pt_types.specs.declared.rows.Row.{Row}
 use Rattle.pt_semantics.specs.Closing.{on_link}
 use Rattle.pt_semantics.specs.Meaning.{ActorFiring, IsMeaning, opening}
@@ -50,12 +50,12 @@ HistoriesBehave = (g : Graph) (level : ℕ → ℕ) (rows : ℕ → List Row) (h
 
 -- the claims of histories without a late turn are a behaviour on each domain on which they are settled, finished or not
 abbrev pub HistoriesBehaveOn : Type 1
-HistoriesBehaveOn = (g : Graph) (level : ℕ → ℕ) (rows : ℕ → List Row) (histories : ℕ → List Turn) (ends : ℕ → State) (D : Part → Tag → Type 0) → IsWired g → AreLevels g level → FitRows g rows → IsClosed g D → ((i : ℕ) → i < length g.platforms → LegalOnTime g level i (opened g i rows) (histories i) (ends i)) → ((i : ℕ) → i < length g.platforms → IsSettled g D (ends i)) → AreCaughtUp g D histories ends → Behaves g (opening g rows) D (all_claims g histories)
+HistoriesBehaveOn = (g : Graph) (level : ℕ → ℕ) (rows : ℕ → List Row) (histories : ℕ → List Turn) (ends : ℕ → State) (D : Unit → Tag → Type 0) → IsWired g → AreLevels g level → FitRows g rows → IsClosed g D → ((i : ℕ) → i < length g.platforms → LegalOnTime g level i (opened g i rows) (histories i) (ends i)) → ((i : ℕ) → i < length g.platforms → IsSettled g D (ends i)) → AreCaughtUp g D histories ends → Behaves g (opening g rows) D (all_claims g histories)
 
 -- confluence: in a graph whose actors have levels, the claims of each unit in legal, linked and finished histories are its
 -- parts of the meaning's firings
 abbrev pub Confluence : Type 0
-Confluence = (g : Graph) (level rank : ℕ → ℕ) (rows : ℕ → List Row) (histories : ℕ → List Turn) (ends : ℕ → State) (xs : List ActorFiring) → IsWired g → AreLevels g level → AreRanks g rank → FitRows g rows → ((i : ℕ) → i < length g.platforms → IsLegal g level i rows (histories i) (ends i)) → ((i : ℕ) → i < length g.platforms → IsFinished g i (ends i)) → AreLinked g histories → IsMeaning g rank rows xs → (u : Part) → all_claims g histories u ≡ parts g xs u
+Confluence = (g : Graph) (level rank : ℕ → ℕ) (rows : ℕ → List Row) (histories : ℕ → List Turn) (ends : ℕ → State) (xs : List ActorFiring) → IsWired g → AreLevels g level → AreRanks g rank → FitRows g rows → ((i : ℕ) → i < length g.platforms → IsLegal g level i rows (histories i) (ends i)) → ((i : ℕ) → i < length g.platforms → IsFinished g i (ends i)) → AreLinked g histories → IsMeaning g rank rows xs → (u : Unit) → all_claims g histories u ≡ parts g xs u
 
 -- confluence for actors: each claim is a part of a firing of its actor, and each input of a firing is claimed by its unit
 abbrev pub ConfluenceByActor : Type 0
@@ -64,11 +64,11 @@ ConfluenceByActor = (g : Graph) (level rank : ℕ → ℕ) (rows : ℕ → List 
 -- confluence on a domain on which the histories are settled. (The domain
 -- is a test: a clause can range over tests, and not over predicates)
 abbrev pub ConfluenceOn : Type 0
-ConfluenceOn = (g : Graph) (level rank : ℕ → ℕ) (rows : ℕ → List Row) (histories : ℕ → List Turn) (ends : ℕ → State) (xs : List ActorFiring) (test : Part → Tag → Bool) → IsWired g → AreLevels g level → AreRanks g rank → FitRows g rows → IsClosed g (Passes test) → ((i : ℕ) → i < length g.platforms → LegalOnTime g level i (opened g i rows) (histories i) (ends i)) → ((i : ℕ) → i < length g.platforms → IsSettled g (Passes test) (ends i)) → AreCaughtUp g (Passes test) histories ends → IsMeaning g rank rows xs → (u : Part) (t : Tag) → test u t ≡ true → firing_at (all_claims g histories u) t ≡ firing_at (parts g xs u) t
+ConfluenceOn = (g : Graph) (level rank : ℕ → ℕ) (rows : ℕ → List Row) (histories : ℕ → List Turn) (ends : ℕ → State) (xs : List ActorFiring) (test : Unit → Tag → Bool) → IsWired g → AreLevels g level → AreRanks g rank → FitRows g rows → IsClosed g (Passes test) → ((i : ℕ) → i < length g.platforms → LegalOnTime g level i (opened g i rows) (histories i) (ends i)) → ((i : ℕ) → i < length g.platforms → IsSettled g (Passes test) (ends i)) → AreCaughtUp g (Passes test) histories ends → IsMeaning g rank rows xs → (u : Unit) (t : Tag) → test u t ≡ true → firing_at (all_claims g histories u) t ≡ firing_at (parts g xs u) t
 
 -- two lists of turns with the same claims and messages
 pub record IsSame (g : Graph) (some others : List Turn) : Type 0 where
-  pub claims : (u : Part) → claims_of g some u ≡ claims_of g others u
+  pub claims : (u : Unit) → claims_of g some u ≡ claims_of g others u
   pub sent : (l : ℕ) → all_sent l some ≡ all_sent l others
   pub taken : (l : ℕ) → all_taken l some ≡ all_taken l others
 

@@ -1,7 +1,7 @@
 -- Theorems about behaviours and the meaning.
 use Rattle.std.specs.Prelude.{◌≡◌, ℕ, List}
 use Rattle.pt_types.specs.declared.graph.Graph.{Graph}
-use Rattle.pt_types.specs.declared.graph.Unit.{Unit as Part}
+use Rattle.pt_types.specs.declared.graph.Unit.{Unit}
 use Rattle.pt_types.specs.declared.rows.Row.{Row}
 use Rattle.pt_semantics.specs.Meaning.{ActorFiring, IsMeaning, Values, opening}
 use Rattle.pt_semantics.specs.Ranks.{AreRanks}
@@ -15,7 +15,7 @@ use Rattle.pt_semantics.specs.Parts.{parts}
 
 -- if a number grows along each edge of no delay, two behaviours with the same rows and starting events are equal
 abbrev pub BehavioursAgree : Type 0
-BehavioursAgree = (g : Graph) (given : Values) (rank : ℕ → ℕ) (f h : Firings) → GrowsAlong g rank → Behaves g given Everywhere f → Behaves g given Everywhere h → (u : Part) → f u ≡ h u
+BehavioursAgree = (g : Graph) (given : Values) (rank : ℕ → ℕ) (f h : Firings) → GrowsAlong g rank → Behaves g given Everywhere f → Behaves g given Everywhere h → (u : Unit) → f u ≡ h u
 
 -- the parts of the meaning's firings are a behaviour
 abbrev pub MeaningBehaves : Type 0

@@ -1,14 +1,14 @@
 //! The rule of a link: what was sent is what was taken and then what the queue holds.
 use crossbeam_queue::protocol::{Join, Lesson, Outcome, Protocol, Split};
 use crossbeam_queue::{Pass, RuledArrayQueue};
-use pt_tags::Message;
+use pt_tags::{Message, Time};
 use std::collections::LinkedList;
 use std::marker::{Brand, PhantomData};
 
 /// What bounds the messages of a link: the horizon (microseconds), the number of actors, and the level of its receiver.
 #[derive(Clone, Copy, Debug, PartialEq, Eq)]
 pub struct Bounds {
-    pub until: u64,
+    pub until: Time,
     pub actors: u64,
     pub level: u64,
 }

@@ -6,8 +6,8 @@ use Rattle.pt_types.specs.Ports.{when, at_port, eight, only}
 use Rattle.pt_semantics.specs.Firing.{any_present}
 use Rattle.pt_semantics.specs.Lists.{or_else}
 use Rattle.pt_semantics.specs.Meaning.{Values, IsFirst, NotAfter, added, waiting, without}
-use Rattle.pt_meaning.specs.declared.place.Place.{Place}
-use Rattle.pt_meaning.specs.declared.world.Waiting.{Waiting}
+use Rattle.pt_meaning.specs.declared.place.EventPlace.{EventPlace}
+use Rattle.pt_meaning.specs.declared.world.WaitingEvents.{WaitingEvents}
 use Rattle.pt_meaning.specs.Both.{with_first, AreSound, IsUpTo}
 use Rattle.pt_meaning.specs.Held.{late_value}
 use Rattle.pt_meaning.proofs.Places.{sound_more}
@@ -28,7 +28,7 @@ either None y v is = inr is
 either (Some x) y v is = inl is
 
 -- a place up to another one, which is first of some events, is not after these
-pub not_after : (rank : ℕ → ℕ) (x y : Place) (b : ℕ) (u : Tag) → x.rank ≡ rank x.actor → y.rank ≡ rank y.actor → IsUpTo x y → NotAfter rank y.tag y.actor u b → NotAfter rank x.tag x.actor u b
+pub not_after : (rank : ℕ → ℕ) (x y : EventPlace) (b : ℕ) (u : Tag) → x.rank ≡ rank x.actor → y.rank ≡ rank y.actor → IsUpTo x y → NotAfter rank y.tag y.actor u b → NotAfter rank x.tag x.actor u b
 not_after rank x y b u ranked ranked_y upto after = by (rank x.actor) (rank y.actor) (rank b) ranked ranked_y after
   where
     by : (r s q : ℕ) → x.rank ≡ r → y.rank ≡ s
@@ -48,7 +48,7 @@ not_after rank x y b u ranked ranked_y upto after = by (rank x.actor) (rank y.ac
     )
 
 -- the sooner of two firsts is the first of all
-pub first_of_both : (rank : ℕ → ℕ) (e l : Values) (x early late : Place) → x.rank ≡ rank x.actor → early.rank ≡ rank early.actor → late.rank ≡ rank late.actor → IsUpTo x early → IsUpTo x late
+pub first_of_both : (rank : ℕ → ℕ) (e l : Values) (x early late : EventPlace) → x.rank ≡ rank x.actor → early.rank ≡ rank early.actor → late.rank ≡ rank late.actor → IsUpTo x early → IsUpTo x late
     → IsFirst rank e early.actor early.tag → IsFirst rank l late.actor late.tag → IsFirst rank (added e l) x.actor x.tag
 first_of_both rank e l x early late ranked ranked_early ranked_late sooner later first_e first_l b p u v is =
     ⊎_elim
@@ -118,7 +118,7 @@ pub taken_both : (e l : Values) (a : ℕ) (t : Tag) (first : Option ℤ) (late :
 taken_both e l a t None late early is = is ∙ ap (λ m. eight (λ p. or_else (at_port m p) (l a p t))) early
 taken_both e l a t (Some v) late early is = ap (with_first (Some v)) is ∙ ap (λ m. eight (λ p. or_else (at_port m p) (l a p t))) early
 
-pub are_sound_more : (rank : ℕ → ℕ) (actors steps more : ℕ) (w : Waiting) → steps ≤ more → AreSound rank actors steps w → AreSound rank actors more w
+pub are_sound_more : (rank : ℕ → ℕ) (actors steps more : ℕ) (w : WaitingEvents) → steps ≤ more → AreSound rank actors steps w → AreSound rank actors more w
 are_sound_more rank actors steps more w grows sound = record {
   early = sound.early;
   late = sound_more rank actors steps more (late_value w.late) grows sound.late;

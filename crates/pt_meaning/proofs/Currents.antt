@@ -10,7 +10,7 @@ use Rattle.pt_tags.specs.Tags.{same_tag}
 use Rattle.pt_types.specs.Ports.{when, at_port, eight, nothing}
 use Rattle.pt_semantics.specs.Firing.{any_present}
 use Rattle.pt_semantics.specs.Meaning.{IsFirst, waiting, without}
-use Rattle.pt_meaning.specs.declared.place.Place.{Place}
+use Rattle.pt_meaning.specs.declared.place.EventPlace.{EventPlace}
 use Rattle.pt_meaning.specs.declared.order.Standing.{Standing}
 use Rattle.pt_meaning.specs.Both.{IsUpTo}
 use Rattle.pt_meaning.specs.Ready.{ports_at, IsFirstReady}
@@ -59,14 +59,14 @@ pub none_first : (P : Type 0) (Q : ℕ → Type 0) (r : Option ℕ) → is_some 
 none_first P Q None h all = all
 none_first P Q (Some x) h all = absurd cc
 
-pub none_placed : (held : Place → Option ℤ) → ((q : Place) → held q ≡ None) → (rank : ℕ → ℕ) (actors steps : ℕ) → EventsArePlaced rank actors steps held
+pub none_placed : (held : EventPlace → Option ℤ) → ((q : EventPlace) → held q ≡ None) → (rank : ℕ → ℕ) (actors steps : ℕ) → EventsArePlaced rank actors steps held
 none_placed held none rank actors steps q some = absurd (never (held q) (none q) some)
   where
     never : (x : Option ℤ) → x ≡ None → IsSome x → ⊥
     never None e h = cc
     never (Some v) e h = cc
 
-pub nothing_waits : (rank : ℕ → ℕ) (held : Place → Option ℤ) (a : ℕ) (t : Tag) → ((p : ℕ) → held (place_of rank a p t) ≡ None) → eight nothing ≡ waiting (waits_in rank held) a t
+pub nothing_waits : (rank : ℕ → ℕ) (held : EventPlace → Option ℤ) (a : ℕ) (t : Tag) → ((p : ℕ) → held (place_of rank a p t) ≡ None) → eight nothing ≡ waiting (waits_in rank held) a t
 nothing_waits rank held a t none = sym (λ i. none 0 i ∷ none 1 i ∷ none 2 i ∷ none 3 i ∷ none 4 i ∷ none 5 i ∷ none 6 i ∷ none 7 i ∷ [])
 
 none_at : (xs : List (Option ℤ)) (p : ℕ) → any_present xs ≡ false → slice_index_or xs p None ≡ None
@@ -95,10 +95,10 @@ same_tag_self t = grind (arith, nat_tests, common_steps)
 stands_self : (x : Standing) (t : Tag) (p : ℕ) → is_standing_of (record { tag = t; rank = x.rank; actor = x.actor; port = p }) x ≡ true
 stands_self x t p = grind (arith, nat_tests, common_steps)
 
-standing_is : (q : Place) (x : Standing) → is_standing_of q x ≡ true → (x.rank ≡ q.rank) × (x.actor ≡ q.actor)
+standing_is : (q : EventPlace) (x : Standing) → is_standing_of q x ≡ true → (x.rank ≡ q.rank) × (x.actor ≡ q.actor)
 standing_is q x h = (grind (arith, nat_tests, common_steps), grind (arith, nat_tests, common_steps))
 
-stands_then : (q : Place) (x : Standing) → x.rank ≡ q.rank → x.actor ≡ q.actor → is_standing_of q x ≡ true
+stands_then : (q : EventPlace) (x : Standing) → x.rank ≡ q.rank → x.actor ≡ q.actor → is_standing_of q x ≡ true
 stands_then q x r a = grind (arith, nat_tests, common_steps)
 
 pub tag_is : (t u : Tag) → same_tag t u ≡ true → t ≡ u
@@ -107,20 +107,20 @@ tag_is t u h =
     let step : t.step ≡ u.step = grind (arith, nat_tests, common_steps) in
     λ i. record { time = time i; step = step i }
 
-up_to_by : (q : Place) (t : Tag) (x y : Standing) → t ≡ q.tag → y.rank ≡ q.rank → y.actor ≡ q.actor → StandsUpTo x y → IsUpTo (record { tag = t; rank = x.rank; actor = x.actor; port = 0 }) q
+up_to_by : (q : EventPlace) (t : Tag) (x y : Standing) → t ≡ q.tag → y.rank ≡ q.rank → y.actor ≡ q.actor → StandsUpTo x y → IsUpTo (record { tag = t; rank = x.rank; actor = x.actor; port = 0 }) q
 up_to_by q t x y tag rank actor up =
     let time : t.time ≡ q.tag.time = ap (λ (u : Tag). u.time) tag in
     let step : t.step ≡ q.tag.step = ap (λ (u : Tag). u.step) tag in
     (omega (arith, time), λ h. (omega (arith, step), λ k. (omega (arith, rank, up.0), λ r. let low = up.1 (omega (arith, rank, r)) in omega (arith, actor, low))))
 
 module _ (tag : Tag) (order : List Standing) (positions : List ℕ) (inputs : List (List (Option ℤ))) where
-  at_position : (q : Place) (k : ℕ) → position_at order positions q.actor ≡ k → same_tag tag q.tag ≡ true → is_standing_of q (standing_at order k) ≡ true → slate_value tag order positions inputs q ≡ at_port (ports_at inputs k) q.port
+  at_position : (q : EventPlace) (k : ℕ) → position_at order positions q.actor ≡ k → same_tag tag q.tag ≡ true → is_standing_of q (standing_at order k) ≡ true → slate_value tag order positions inputs q ≡ at_port (ports_at inputs k) q.port
   at_position q k is t s =
       ap (λ i. when (same_tag tag q.tag && is_standing_of q (standing_at order i)) (at_port (ports_at inputs i) q.port)) is
       ∙ ap (λ b. when (b && is_standing_of q (standing_at order k)) (at_port (ports_at inputs k) q.port)) t
       ∙ ap (λ b. when b (at_port (ports_at inputs k) q.port)) s
 
-  pub no_values : ((n : ℕ) → any_present (ports_at inputs n) ≡ false) → (q : Place) → slate_value tag order positions inputs q ≡ None
+  pub no_values : ((n : ℕ) → any_present (ports_at inputs n) ≡ false) → (q : EventPlace) → slate_value tag order positions inputs q ≡ None
   no_values none q =
       let i = position_at order positions q.actor in
       when_none (same_tag tag q.tag && is_standing_of q (standing_at order i)) (at_port (ports_at inputs i) q.port) (none_at (ports_at inputs i) q.port (none i))
@@ -143,10 +143,10 @@ module _ (tag : Tag) (order : List Standing) (positions : List ℕ) (inputs : Li
       at : (p : ℕ) × IsSome (slice_index_or (ports_at inputs k) p None)
       at = some_at (ports_at inputs k) ready.there
 
-      here : Place
+      here : EventPlace
       here = record { tag = tag; rank = (standing_at order k).rank; actor = (standing_at order k).actor; port = 0 }
 
-      first : (q : Place) → IsSome (slate_value tag order positions inputs q) → IsUpTo here q
+      first : (q : EventPlace) → IsSome (slate_value tag order positions inputs q) → IsUpTo here q
       first q some =
           let i = position_at order positions q.actor in
           let parts = both_of (same_tag tag q.tag) (is_standing_of q (standing_at order i)) (at_port (ports_at inputs i) q.port) some in
@@ -156,7 +156,7 @@ module _ (tag : Tag) (order : List Standing) (positions : List ℕ) (inputs : Li
           up_to_by q tag (standing_at order k) (standing_at order i) (tag_is tag q.tag parts.0) stands.0 stands.1 (current.rising k i after (within current i present))
 
   -- an event was put where none was
-  module _ (place : Place) (value : ℤ) (k : ℕ) (at : position_at order positions place.actor ≡ k) (stands : is_standing_of place (standing_at order k) ≡ true) (tagged : place.tag ≡ tag) (there : k < length inputs) where
+  module _ (place : EventPlace) (value : ℤ) (k : ℕ) (at : position_at order positions place.actor ≡ k) (stands : is_standing_of place (standing_at order k) ≡ true) (tagged : place.tag ≡ tag) (there : k < length inputs) where
     put_in : List (List (Option ℤ))
     put_in = slice_set inputs k (slice_set (ports_at inputs k) place.port (Some value))
 
@@ -179,7 +179,7 @@ module _ (tag : Tag) (order : List Standing) (positions : List ℕ) (inputs : Li
             ∙ ap (λ xs. at_port xs place.port) (get_or-set_same inputs k (slice_set (ports_at inputs k) place.port (Some value)) [] there)
             ∙ get_or-set_same (ports_at inputs k) place.port (Some value) None port
 
-        elsewhere : (q : Place) → is_eq (place_cmp place q) ≡ false → (t s : Bool) → same_tag tag q.tag ≡ t → is_standing_of q (standing_at order k) ≡ s
+        elsewhere : (q : EventPlace) → is_eq (place_cmp place q) ≡ false → (t s : Bool) → same_tag tag q.tag ≡ t → is_standing_of q (standing_at order k) ≡ s
             → when (t && s) (at_port (ports_at new k) q.port) ≡ when (t && s) (at_port (ports_at inputs k) q.port)
         elsewhere q other true true t s =
             ap (λ xs. at_port xs q.port) (get_or-set_same inputs k (slice_set (ports_at inputs k) place.port (Some value)) [] there)
@@ -193,7 +193,7 @@ module _ (tag : Tag) (order : List Standing) (positions : List ℕ) (inputs : Li
         elsewhere q other true false t s = refl
         elsewhere q other false s t u = refl
 
-        by : (q : Place) (b : Bool) → is_eq (place_cmp place q) ≡ b → slate_value tag order positions new q ≡ cond b (Some value) (slate_value tag order positions inputs q)
+        by : (q : EventPlace) (b : Bool) → is_eq (place_cmp place q) ≡ b → slate_value tag order positions new q ≡ cond b (Some value) (slate_value tag order positions inputs q)
         by q true e = subst (λ z. slate_value tag order positions new z ≡ Some value) (one_place place q e) own
         by q false e = ⊎_elim
             (λ (hit : position_at order positions q.actor ≡ k).
@@ -245,12 +245,12 @@ module _ (tag : Tag) (order : List Standing) (positions : List ℕ) (inputs : Li
         at_one p None e = e ∙ sym (ap (λ i. when (same_tag tag tag && is_standing_of (place_of rank a p tag) (standing_at order i)) (at_port (ports_at inputs i) p)) at
             ∙ when_none (same_tag tag tag && is_standing_of (place_of rank a p tag) (standing_at order k)) (at_port (ports_at inputs k) p) e)
         at_one p (Some v) e =
-            let q : Place = record { tag = tag; rank = (standing_at order k).rank; actor = a; port = p } in
+            let q : EventPlace = record { tag = tag; rank = (standing_at order k).rank; actor = a; port = p } in
             let held = at_position q k at (same_tag_self tag) (stands_then q (standing_at order k) refl is) in
             let placed = sound q (subst IsSome (sym (held ∙ e)) refl) in
             sym (at_position (place_of rank a p tag) k at (same_tag_self tag) (stands_then (place_of rank a p tag) (standing_at order k) placed.rank_is is))
 
-    gone : (q : Place) → is_place_of tag a q ≡ false → slate_value tag order positions (slice_set inputs k (eight nothing)) q ≡ slate_value tag order positions inputs q
+    gone : (q : EventPlace) → is_place_of tag a q ≡ false → slate_value tag order positions (slice_set inputs k (eight nothing)) q ≡ slate_value tag order positions inputs q
     gone q other = ⊎_elim
         (λ (hit : position_at order positions q.actor ≡ k).
         ap (λ i. when (same_tag tag q.tag && is_standing_of q (standing_at order i)) (at_port (ports_at (slice_set inputs k (eight nothing)) i) q.port)) hit
@@ -271,7 +271,7 @@ module _ (tag : Tag) (order : List Standing) (positions : List ℕ) (inputs : Li
         by true false t s = refl
         by false s t u = refl
 
-    none_more : (q : Place) → position_at order positions q.actor ≡ k → slate_value tag order positions (slice_set inputs k (eight nothing)) q ≡ None
+    none_more : (q : EventPlace) → position_at order positions q.actor ≡ k → slate_value tag order positions (slice_set inputs k (eight nothing)) q ≡ None
     none_more q hit =
         ap (λ i. when (same_tag tag q.tag && is_standing_of q (standing_at order i)) (at_port (ports_at (slice_set inputs k (eight nothing)) i) q.port)) hit
         ∙ when_none (same_tag tag q.tag && is_standing_of q (standing_at order k)) (at_port (ports_at (slice_set inputs k (eight nothing)) k) q.port)
@@ -328,16 +328,16 @@ module _ (s now : Slate) (same : s ≡ now) (t : Tag) (a k : ℕ) (is : IsPositi
       (sound_still s.tag s.order s.positions s.inputs k a here.at here.actor_is here.there rank actors steps placed)
 
 -- the actor that leads
-module _ (held : Place → Option ℤ) where
-  pub leads_some : {Q : Place → Type 0} (r : Option Place) → MatchOption r ((q : Place) → held q ≡ None) (ComesFirst held) → ((x : Place) → ComesFirst held x → Q x) → IfSome r Q
+module _ (held : EventPlace → Option ℤ) where
+  pub leads_some : {Q : EventPlace → Type 0} (r : Option EventPlace) → MatchOption r ((q : EventPlace) → held q ≡ None) (ComesFirst held) → ((x : EventPlace) → ComesFirst held x → Q x) → IfSome r Q
   leads_some None h to = tt
   leads_some (Some x) h to = to x h
 
-  pub leads_none : {Q : Type 0} (r : Option Place) → MatchOption r ((q : Place) → held q ≡ None) (ComesFirst held) → (((q : Place) → held q ≡ None) → Q) → IfNone r Q
+  pub leads_none : {Q : Type 0} (r : Option EventPlace) → MatchOption r ((q : EventPlace) → held q ≡ None) (ComesFirst held) → (((q : EventPlace) → held q ≡ None) → Q) → IfNone r Q
   leads_none None h to = to h
   leads_none (Some x) h to = tt
 
-  module _ (rank : ℕ → ℕ) (actors steps : ℕ) (x : Place) (lead : ComesFirst held x) (sound : EventsArePlaced rank actors steps held) where
+  module _ (rank : ℕ → ℕ) (actors steps : ℕ) (x : EventPlace) (lead : ComesFirst held x) (sound : EventsArePlaced rank actors steps held) where
     pub leads_first : IsFirst rank (waits_in rank held) x.actor x.tag
     leads_first b p u v is =
         let up = lead.first (place_of rank b p u) (subst IsSome (sym is) refl) in

@@ -14,7 +14,7 @@ use Rattle.pt_semantics.specs.Lists.{or_else, Each}
 use Rattle.pt_semantics.specs.Meaning.{IsFirst, NotAfter, at_time, added, waiting, without}
 use Rattle.pt_meaning.specs.declared.early.Early.{Early}
 use Rattle.pt_semantics.specs.Firing.{any_present}
-use Rattle.pt_meaning.specs.declared.place.Place.{Place}
+use Rattle.pt_meaning.specs.declared.place.EventPlace.{EventPlace}
 use Rattle.pt_meaning.specs.Waiting.{IsPlaceIn}
 use Rattle.pt_meaning.specs.Opening.{start_event}
 use Rattle.pt_meaning.specs.Early.{event_moment, event_moment_cmp, place_of_early, early_waits, is_event_at, AreEarly, Heads, IsEarly, IsFiringOrder, NotAtHead, NotLater, EventsRise}
@@ -277,23 +277,23 @@ after_all rank actors e b p u v (f ∷ xs) ranked placed later is =
 same_moment : (e : Early) → NotLater e e
 same_moment e = (omega arith, λ h. (omega arith, λ k. omega arith))
 
-pub early_first : (rank : ℕ → ℕ) (actors : ℕ) (xs : List Early) (e : Early) (rest : List Early) (place : Place) → xs ≡ e ∷ rest → place ≡ place_of_early e → IsFiringOrder rank actors xs → IsFirst rank (early_waits xs) place.actor place.tag
+pub early_first : (rank : ℕ → ℕ) (actors : ℕ) (xs : List Early) (e : Early) (rest : List Early) (place : EventPlace) → xs ≡ e ∷ rest → place ≡ place_of_early e → IsFiringOrder rank actors xs → IsFirst rank (early_waits xs) place.actor place.tag
 early_first rank actors xs e rest place is place_is orderly =
     let o = subst (IsFiringOrder rank actors) is orderly in
-    subst (λ (x : Place). IsFirst rank (early_waits xs) x.actor x.tag) (sym place_is)
+    subst (λ (x : EventPlace). IsFirst rank (early_waits xs) x.actor x.tag) (sym place_is)
     (subst (λ ys. IsFirst rank (early_waits ys) e.moment.actor (at_time e.moment.time)) (sym is)
     (λ b p u v h. after_all rank actors e b p u v (e ∷ rest) o.placed.0.rank_is o.placed (same_moment e, o.rising.0) h))
 
 any_first : (f : ℕ → Option ℤ) (v : ℤ) → f 0 ≡ Some v → any_present (eight f) ≡ true
 any_first f v h = subst (λ x. any_present (x ∷ f 1 ∷ f 2 ∷ f 3 ∷ f 4 ∷ f 5 ∷ f 6 ∷ f 7 ∷ []) ≡ true) (sym h) refl
 
-pub early_present : (xs : List Early) (e : Early) (rest : List Early) (place : Place) → xs ≡ e ∷ rest → place ≡ place_of_early e → any_present (waiting (early_waits xs) place.actor place.tag) ≡ true
+pub early_present : (xs : List Early) (e : Early) (rest : List Early) (place : EventPlace) → xs ≡ e ∷ rest → place ≡ place_of_early e → any_present (waiting (early_waits xs) place.actor place.tag) ≡ true
 early_present xs e rest place is place_is =
-    subst (λ (x : Place). any_present (waiting (early_waits xs) x.actor x.tag) ≡ true) (sym place_is)
+    subst (λ (x : EventPlace). any_present (waiting (early_waits xs) x.actor x.tag) ≡ true) (sym place_is)
     (subst (λ ys. any_present (waiting (early_waits ys) e.moment.actor (at_time e.moment.time)) ≡ true) (sym is)
     (any_first (λ p. early_waits (e ∷ rest) e.moment.actor p (at_time e.moment.time)) e.value (own_value e rest)))
 
-pub early_placed : (rank : ℕ → ℕ) (actors steps : ℕ) (xs : List Early) (e : Early) (rest : List Early) (place : Place) → xs ≡ e ∷ rest → place ≡ place_of_early e → IsFiringOrder rank actors xs → IsPlaceIn rank actors steps place
+pub early_placed : (rank : ℕ → ℕ) (actors steps : ℕ) (xs : List Early) (e : Early) (rest : List Early) (place : EventPlace) → xs ≡ e ∷ rest → place ≡ place_of_early e → IsFiringOrder rank actors xs → IsPlaceIn rank actors steps place
 early_placed rank actors steps xs e rest place is place_is orderly =
     let o = subst (IsFiringOrder rank actors) is orderly in
     subst (IsPlaceIn rank actors steps) (sym place_is) (record { rank_is = o.placed.0.rank_is; actor = o.placed.0.actor; port = omega arith; step = omega arith })

@@ -9,7 +9,7 @@ use Rattle.pt_types.specs.declared.graph.Edge.{Edge}
 use Rattle.pt_types.specs.Ports.{when, at_port}
 use Rattle.pt_semantics.specs.Lists.{or_else, first_of, Each}
 use Rattle.pt_semantics.specs.Meaning.{Values, added, going, leaves_actor}
-use Rattle.pt_meaning.specs.declared.place.Place.{Place}
+use Rattle.pt_meaning.specs.declared.place.EventPlace.{EventPlace}
 use Rattle.pt_meaning.specs.Waiting.{value_at}
 
 tag_is : (t u : Tag) → same_tag t u ≡ true → t.time ≡ u.time
@@ -27,7 +27,7 @@ one_value false c true leaves found v h l f = refl
 one_value false c false leaves found v h l f = refl
 
 -- an event that is put where an edge leads is what goes along it
-pub goes_one : (g : Graph) (actor : ℕ) (e : Edge) (t later : Tag) (outputs : List (Option ℤ)) (place : Place) (v : ℤ) → e.from ≡ actor → at_port outputs e.output ≡ Some v
+pub goes_one : (g : Graph) (actor : ℕ) (e : Edge) (t later : Tag) (outputs : List (Option ℤ)) (place : EventPlace) (v : ℤ) → e.from ≡ actor → at_port outputs e.output ≡ Some v
     → later ≡ plus t e.weight → later.time ≤ g.until → place.tag ≡ later → place.actor ≡ e.to → place.port ≡ e.input
     → value_at place v ≡ going g (e ∷ []) (leaves_actor actor) t outputs
 goes_one g actor e t later outputs place v from value is within tag to port = λ i a p u. at a p u i

@@ -12,7 +12,7 @@ use Rattle.std.proofs.lemmas.Bool.Decides.{nat_tests}
 use Rattle.std.proofs.lemmas.Grind.{common_steps}
 use Rattle.pt_types.specs.Ports.{when}
 use Rattle.pt_semantics.specs.Lists.{or_else, Each}
-use Rattle.pt_meaning.specs.declared.place.Place.{Place}
+use Rattle.pt_meaning.specs.declared.place.EventPlace.{EventPlace}
 use Rattle.pt_meaning.specs.declared.line.Sent.{Sent}
 use Rattle.pt_meaning.specs.Line.{begins_with, in_line, AreAfter, AreBefore, IsSortedLine}
 use Rattle.pt_meaning.specs.Waiting.{place_cmp}
@@ -21,8 +21,8 @@ use Rattle.pt_meaning.proofs.Places.{one_place, same_self}
 
 pub place_total : IsTotalOrder place_cmp
 place_total =
-    then_total (then_total (on_total (λ (p : Place). p.tag.time) nat_cmp_total) (on_total (λ (p : Place). p.tag.step) nat_cmp_total))
-    (then_total (on_total (λ (p : Place). p.rank) nat_cmp_total) (then_total (on_total (λ (p : Place). p.actor) nat_cmp_total) (on_total (λ (p : Place). p.port) nat_cmp_total)))
+    then_total (then_total (on_total (λ (p : EventPlace). p.tag.time) nat_cmp_total) (on_total (λ (p : EventPlace). p.tag.step) nat_cmp_total))
+    (then_total (on_total (λ (p : EventPlace). p.rank) nat_cmp_total) (then_total (on_total (λ (p : EventPlace). p.actor) nat_cmp_total) (on_total (λ (p : EventPlace). p.port) nat_cmp_total)))
 
 pub lt_of : (o : Ordering) → is_lt o ≡ true → o ≡ Less
 lt_of Less h = refl
@@ -34,30 +34,30 @@ eq_of Less h = absurd cc
 eq_of Equal h = refl
 eq_of Greater h = absurd cc
 
-module _ (R : Place → Place → Ordering) (o : IsTotalOrder R) where
+module _ (R : EventPlace → EventPlace → Ordering) (o : IsTotalOrder R) where
   -- where all are after a place, nothing is at it
-  absent : (p q : Place) (es : List Sent) → Each (λ (e : Sent). R e.place p ≡ Greater) es → is_eq (R p q) ≡ true → in_line R es q ≡ None
+  absent : (p q : EventPlace) (es : List Sent) → Each (λ (e : Sent). R e.place p ≡ Greater) es → is_eq (R p q) ≡ true → in_line R es q ≡ None
   absent p q [] after same = refl
   absent p q (e ∷ es) after same =
       let here : R e.place q ≡ Greater = sym (alike_right o p q e.place (eq_of (R p q) same)) ∙ after.0 in
       rw here (absent p q es after.1 same)
 
-  back_from_less : (x y : Place) → R x y ≡ Less → R y x ≡ Greater
+  back_from_less : (x y : EventPlace) → R x y ≡ Less → R y x ≡ Greater
   back_from_less x y h = rw (o.antisymm y x, h) refl
 
-  each_back : (x : Place) (es : List Sent) → Each (λ (e : Sent). R x e.place ≡ Less) es → Each (λ (e : Sent). R e.place x ≡ Greater) es
+  each_back : (x : EventPlace) (es : List Sent) → Each (λ (e : Sent). R x e.place ≡ Less) es → Each (λ (e : Sent). R e.place x ≡ Greater) es
   each_back x [] h = tt
   each_back x (e ∷ es) h = (back_from_less x e.place h.0, each_back x es h.1)
 
   -- the first event left
-  pub without_first : (x : Sent) (es : List Sent) → IsSortedLine R (x ∷ es) → (q : Place) → in_line R es q ≡ cond (is_eq (R x.place q)) None (in_line R (x ∷ es) q)
+  pub without_first : (x : Sent) (es : List Sent) → IsSortedLine R (x ∷ es) → (q : EventPlace) → in_line R es q ≡ cond (is_eq (R x.place q)) None (in_line R (x ∷ es) q)
   without_first x es rising q = by (is_eq (R x.place q)) refl
     where
       by : (b : Bool) → is_eq (R x.place q) ≡ b → in_line R es q ≡ cond b None (cond b (Some x.value) (in_line R es q))
       by true same = absent x.place q es (each_back x.place es rising.0) same
       by false same = refl
 
-  after_first : (x : Place) (es : List Sent) (q : Place) → Each (λ (e : Sent). R x e.place ≡ Less) es → IsSome (in_line R es q) → is_gt (R x q) ≡ false
+  after_first : (x : EventPlace) (es : List Sent) (q : EventPlace) → Each (λ (e : Sent). R x e.place ≡ Less) es → IsSome (in_line R es q) → is_gt (R x q) ≡ false
   after_first x [] q after some = absurd cc
   after_first x (e ∷ es) q after some = by (is_eq (R e.place q)) refl some (after_first x es q after.1)
     where
@@ -73,7 +73,7 @@ module _ (R : Place → Place → Ordering) (o : IsTotalOrder R) where
   eq_not_gt Greater h = absurd cc
 
   -- no event is before the first
-  pub first_is_least : (x : Sent) (es : List Sent) → IsSortedLine R (x ∷ es) → (q : Place) → IsSome (in_line R (x ∷ es) q) → is_gt (R x.place q) ≡ false
+  pub first_is_least : (x : Sent) (es : List Sent) → IsSortedLine R (x ∷ es) → (q : EventPlace) → IsSome (in_line R (x ∷ es) q) → is_gt (R x.place q) ≡ false
   first_is_least x es rising q some = by (is_eq (R x.place q)) refl some
     where
       by : (b : Bool) → is_eq (R x.place q) ≡ b → IsSome (cond b (Some x.value) (in_line R es q)) → is_gt (R x.place q) ≡ false
@@ -81,7 +81,7 @@ module _ (R : Place → Place → Ordering) (o : IsTotalOrder R) where
       by false same some = after_first x.place es q rising.0 some
 
   -- where the last event is before a place, all are
-  pub all_before : (es : List Sent) (p : Place) (last : Sent) (k : ℕ) → length es ≡ suc k → IsSortedLine R es → last ≡ get_or es k last → R last.place p ≡ Less → AreBefore R p es
+  pub all_before : (es : List Sent) (p : EventPlace) (last : Sent) (k : ℕ) → length es ≡ suc k → IsSortedLine R es → last ≡ get_or es k last → R last.place p ≡ Less → AreBefore R p es
   all_before [] p last k len rising is before = tt
   all_before (x ∷ []) p last zero len rising is before = (subst (λ (e : Sent). R e.place p ≡ Less) is before, tt)
   all_before (x ∷ []) p last (suc k) len rising is before = absurd (omega (arith, len))
@@ -91,7 +91,7 @@ module _ (R : Place → Place → Ordering) (o : IsTotalOrder R) where
       (o.trans x.place y.place p rising.0.0 rest.0, rest)
 
   -- where the first event is after a place, all are
-  pub all_after : (es : List Sent) (p : Place) (first : Sent) → IsSortedLine R es → first ≡ get_or es 0 first → R p first.place ≡ Less → AreAfter R p es
+  pub all_after : (es : List Sent) (p : EventPlace) (first : Sent) → IsSortedLine R es → first ≡ get_or es 0 first → R p first.place ≡ Less → AreAfter R p es
   all_after [] p first rising is after = tt
   all_after (x ∷ es) p first rising is after =
       let here : R p x.place ≡ Less = subst (λ (e : Sent). R p e.place ≡ Less) is after in
@@ -115,7 +115,7 @@ module _ (R : Place → Place → Ordering) (o : IsTotalOrder R) where
   rising_back (x ∷ xs) ys h = rising_back xs ys h.1
 
   -- where the events of the second part are before a place, so are all
-  pub both_before : (xs : List Sent) (ys : List Sent) (p : Place) → 0 < length ys → IsSortedLine R (xs ++ ys) → AreBefore R p ys → AreBefore R p (xs ++ ys)
+  pub both_before : (xs : List Sent) (ys : List Sent) (p : EventPlace) → 0 < length ys → IsSortedLine R (xs ++ ys) → AreBefore R p ys → AreBefore R p (xs ++ ys)
   both_before [] ys p some rising before = before
   both_before (x ∷ xs) ys p some rising before =
       let rest = both_before xs ys p some rising.1 before in
@@ -135,7 +135,7 @@ module _ (R : Place → Place → Ordering) (o : IsTotalOrder R) where
       by true rest = refl
       by false rest = rest
 
-  pub there_in_both : (xs ys : List Sent) (p : Place) → IsSome (in_line R xs p) → IsSome (in_line R (xs ++ ys) p)
+  pub there_in_both : (xs ys : List Sent) (p : EventPlace) → IsSome (in_line R xs p) → IsSome (in_line R (xs ++ ys) p)
   there_in_both [] ys p some = absurd cc
   there_in_both (x ∷ xs) ys p some = by (is_eq (R x.place p)) some (there_in_both xs ys p)
     where
@@ -149,7 +149,7 @@ module _ (R : Place → Place → Ordering) (o : IsTotalOrder R) where
   new_value false (Some v) value h = refl
 
   -- an event enters before those that are after it
-  pub enters_between : (xs ys : List Sent) (p : Place) (v : ℤ) → AreAfter R p ys → (q : Place)
+  pub enters_between : (xs ys : List Sent) (p : EventPlace) (v : ℤ) → AreAfter R p ys → (q : EventPlace)
       → in_line R (xs ++ record { place = p; value = v } ∷ ys) q ≡ or_else (in_line R (xs ++ ys) q) (when (is_eq (R p q)) (Some v))
   enters_between [] ys p v after q = new_value (is_eq (R p q)) (in_line R ys q) v (absent p q ys after)
   enters_between (x ∷ xs) ys p v after q = by (is_eq (R x.place q)) (in_line R (xs ++ record { place = p; value = v } ∷ ys) q) (enters_between xs ys p v after q)
@@ -158,7 +158,7 @@ module _ (R : Place → Place → Ordering) (o : IsTotalOrder R) where
       by true y rest = refl
       by false y rest = rest
 
-  ahead : (es : List Sent) (p : Place) → Each (λ (e : Sent). R e.place p ≡ Greater) es → Each (λ (e : Sent). R p e.place ≡ Less) es
+  ahead : (es : List Sent) (p : EventPlace) → Each (λ (e : Sent). R e.place p ≡ Greater) es → Each (λ (e : Sent). R p e.place ≡ Less) es
   ahead [] p h = tt
   ahead (e ∷ es) p h = (rw (o.antisymm p e.place, h.0) refl, ahead es p h.1)
 
@@ -167,7 +167,7 @@ module _ (R : Place → Place → Ordering) (o : IsTotalOrder R) where
   each_between P (x ∷ xs) ys e each here = (each.0, each_between P xs ys e each.1 here)
 
   -- and the line still rises
-  pub rising_between : (xs ys : List Sent) (p : Place) (v : ℤ) → AreBefore R p xs → AreAfter R p ys → IsSortedLine R (xs ++ ys) → IsSortedLine R (xs ++ record { place = p; value = v } ∷ ys)
+  pub rising_between : (xs ys : List Sent) (p : EventPlace) (v : ℤ) → AreBefore R p xs → AreAfter R p ys → IsSortedLine R (xs ++ ys) → IsSortedLine R (xs ++ record { place = p; value = v } ∷ ys)
   rising_between [] ys p v before after rising = (ahead ys p after, rising)
   rising_between (x ∷ xs) ys p v before after rising = (
     each_between (λ (f : Sent). R x.place f.place ≡ Less) xs ys (record { place = p; value = v }) rising.0 before.0,
@@ -175,18 +175,18 @@ module _ (R : Place → Place → Ordering) (o : IsTotalOrder R) where
   )
 
   -- an event put at the end
-  pub enters_last : (es : List Sent) (p : Place) (v : ℤ) (q : Place) → in_line R (es ++ record { place = p; value = v } ∷ []) q ≡ or_else (in_line R es q) (when (is_eq (R p q)) (Some v))
+  pub enters_last : (es : List Sent) (p : EventPlace) (v : ℤ) (q : EventPlace) → in_line R (es ++ record { place = p; value = v } ∷ []) q ≡ or_else (in_line R es q) (when (is_eq (R p q)) (Some v))
   enters_last es p v q = enters_between es [] p v tt q ∙ ap (λ xs. or_else (in_line R xs q) (when (is_eq (R p q)) (Some v))) (append-nil es)
 
-  pub rising_last : (es : List Sent) (p : Place) (v : ℤ) → AreBefore R p es → IsSortedLine R es → IsSortedLine R (es ++ record { place = p; value = v } ∷ [])
+  pub rising_last : (es : List Sent) (p : EventPlace) (v : ℤ) → AreBefore R p es → IsSortedLine R es → IsSortedLine R (es ++ record { place = p; value = v } ∷ [])
   rising_last es p v before rising = rising_between es [] p v before tt (subst (IsSortedLine R) (sym (append-nil es)) rising)
 
   -- the first event is the least
-  pub least_of : (x : Sent) (es : List Sent) → IsSortedLine R (x ∷ es) → IsSome (in_line R (x ∷ es) x.place) × ((q : Place) → IsSome (in_line R (x ∷ es) q) → is_gt (R x.place q) ≡ false)
+  pub least_of : (x : Sent) (es : List Sent) → IsSortedLine R (x ∷ es) → IsSome (in_line R (x ∷ es) x.place) × ((q : EventPlace) → IsSome (in_line R (x ∷ es) q) → is_gt (R x.place q) ≡ false)
   least_of x es rising = (rw (tied_itself o x.place) refl, first_is_least x es rising)
 
-pub least_in : (es : List Sent) (r : Option Place) → MatchOption r (es ≡ []) (λ place. (sent : Sent) × (rest : List Sent) × (es ≡ sent ∷ rest) × (place ≡ sent.place)) → IsSortedLine place_cmp es
-    → MatchOption r ((q : Place) → in_line place_cmp es q ≡ None) (λ place. IsLeastPlace (in_line place_cmp es) place)
+pub least_in : (es : List Sent) (r : Option EventPlace) → MatchOption r (es ≡ []) (λ place. (sent : Sent) × (rest : List Sent) × (es ≡ sent ∷ rest) × (place ≡ sent.place)) → IsSortedLine place_cmp es
+    → MatchOption r ((q : EventPlace) → in_line place_cmp es q ≡ None) (λ place. IsLeastPlace (in_line place_cmp es) place)
 least_in es None none rising = λ q. ap (λ zs. in_line place_cmp zs q) none
 least_in es (Some place) first rising =
     let least = least_of place_cmp place_total first.0 first.1 (subst (IsSortedLine place_cmp) first.2 rising) in
@@ -217,7 +217,7 @@ none_in_front t a (x ∷ es) rising other =
     inr (x.place, record { there = least.0; least = least.1 }, other)
 
 -- nothing enters where an event is
-pub enters_not : (es : List Sent) (p : Place) (v : ℤ) → IsSome (in_line place_cmp es p) → (q : Place) → in_line place_cmp es q ≡ or_else (in_line place_cmp es q) (when (is_eq (place_cmp p q)) (Some v))
+pub enters_not : (es : List Sent) (p : EventPlace) (v : ℤ) → IsSome (in_line place_cmp es p) → (q : EventPlace) → in_line place_cmp es q ≡ or_else (in_line place_cmp es q) (when (is_eq (place_cmp p q)) (Some v))
 enters_not es p v some q = by (is_eq (place_cmp p q)) (in_line place_cmp es q) (λ same. subst (λ z. IsSome (in_line place_cmp es z)) (one_place p q same) some)
   where
     by : (b : Bool) (x : Option ℤ) → (b ≡ true → IsSome x) → x ≡ or_else x (when b (Some v))
@@ -226,7 +226,7 @@ enters_not es p v some q = by (is_eq (place_cmp p q)) (in_line place_cmp es q) (
     by true None some = let none = some refl in absurd cc
 
 -- an event is at a place, so that nothing enters, or the line stays as it is
-pub there_or_not : (es : List Sent) (p : Place) (v : ℤ) (b : Bool) → (b ≡ true → IsSome (in_line place_cmp es p)) → MatchBool b (Enters p v (in_line place_cmp es) (in_line place_cmp es)) (es ≡ es)
+pub there_or_not : (es : List Sent) (p : EventPlace) (v : ℤ) (b : Bool) → (b ≡ true → IsSome (in_line place_cmp es p)) → MatchBool b (Enters p v (in_line place_cmp es) (in_line place_cmp es)) (es ≡ es)
 there_or_not es p v true some = enters_not es p v (some refl)
 there_or_not es p v false some = refl
 

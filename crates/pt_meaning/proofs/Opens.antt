@@ -15,7 +15,7 @@ use Rattle.pt_types.specs.Groups.{no_actor}
 use Rattle.pt_types.specs.Lookups.{kind_of}
 use Rattle.pt_semantics.specs.Meaning.{Values, added, at_time, start_at, row_at, rows_until, opening}
 use Rattle.pt_sensors.specs.declared.sensor_rows.SensorRows.{SensorRows}
-use Rattle.pt_meaning.specs.declared.place.Place.{Place}
+use Rattle.pt_meaning.specs.declared.place.EventPlace.{EventPlace}
 use Rattle.pt_meaning.specs.Waiting.{value_at}
 use Rattle.pt_meaning.specs.Opening.{start_event, start_one, starts_below, rows_of_actor, rows_from_sensors}
 use Rattle.pt_sensors.specs.Listed.{rows_for}
@@ -24,7 +24,7 @@ flip : (p : ℕ) → (0 == p) ≡ (p == 0)
 flip p = grind (arith, nat_tests)
 
 -- an event that is put at input 0
-pub begin_value : (place : Place) (actor time : ℕ) (v : ℤ) → place.tag ≡ at_time time → place.actor ≡ actor → place.port ≡ 0 → value_at place v ≡ start_event actor time v
+pub begin_value : (place : EventPlace) (actor time : ℕ) (v : ℤ) → place.tag ≡ at_time time → place.actor ≡ actor → place.port ≡ 0 → value_at place v ≡ start_event actor time v
 begin_value place actor time v tag is port = λ i a p t. at a p t i
   where
     at : (a p : ℕ) (t : Tag) → value_at place v a p t ≡ start_event actor time v a p t

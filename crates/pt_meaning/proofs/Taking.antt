@@ -9,39 +9,39 @@ use Rattle.pt_tags.specs.Tags.{same_tag}
 use Rattle.pt_types.specs.Ports.{when, at_port, eight}
 use Rattle.pt_semantics.specs.Lists.{or_else}
 use Rattle.pt_semantics.specs.Meaning.{IsFirst, without}
-use Rattle.pt_meaning.specs.declared.place.Place.{Place}
+use Rattle.pt_meaning.specs.declared.place.EventPlace.{EventPlace}
 use Rattle.pt_meaning.specs.Waiting.{place_cmp, place_of, waits_in, IsPlaceIn, EventsArePlaced}
 use Rattle.pt_meaning.specs.Front.{IsLeastPlace, TakesOne, NoneInFront, is_place_of}
 use Rattle.pt_meaning.proofs.Places.{one_place, same_self, up_to}
 
 -- each of some events is one of others
-abbrev pub IsPart : (Place → Option ℤ) → (Place → Option ℤ) → Type 0
-IsPart some all = (q : Place) (v : ℤ) → some q ≡ Some v → all q ≡ Some v
+abbrev pub IsPart : (EventPlace → Option ℤ) → (EventPlace → Option ℤ) → Type 0
+IsPart some all = (q : EventPlace) (v : ℤ) → some q ≡ Some v → all q ≡ Some v
 
 there : (b : Bool) (x : Option ℤ) (v : ℤ) → cond b None x ≡ Some v → x ≡ Some v
 there true x v h = absurd cc
 there false x v h = h
 
-pub kept_more : (t : Tag) (a port : ℕ) (v : ℤ) (all before now : Place → Option ℤ) → TakesOne t a port v before now → IsPart before all → IsPart now all
+pub kept_more : (t : Tag) (a port : ℕ) (v : ℤ) (all before now : EventPlace → Option ℤ) → TakesOne t a port v before now → IsPart before all → IsPart now all
 kept_more t a port v all before now leaves part q w h = part q w (there (is_eq (place_cmp leaves.place q)) (before q) w (sym (leaves.others q) ∙ h))
 
-here : (t : Tag) (a : ℕ) (x : Place) → x.tag ≡ t → x.actor ≡ a → is_place_of t a x ≡ true
+here : (t : Tag) (a : ℕ) (x : EventPlace) → x.tag ≡ t → x.actor ≡ a → is_place_of t a x ≡ true
 here t a x tag actor = grind (arith, nat_tests, common_steps)
 
 stays : (b : Bool) (x : Option ℤ) → (b ≡ true → ⊥) → cond b None x ≡ x
 stays true x h = absurd (h refl)
 stays false x h = refl
 
-pub others_more : (t : Tag) (a port : ℕ) (v : ℤ) (all before now : Place → Option ℤ) → TakesOne t a port v before now
-    → ((q : Place) → is_place_of t a q ≡ false → before q ≡ all q)
-    → (q : Place) → is_place_of t a q ≡ false → now q ≡ all q
+pub others_more : (t : Tag) (a port : ℕ) (v : ℤ) (all before now : EventPlace → Option ℤ) → TakesOne t a port v before now
+    → ((q : EventPlace) → is_place_of t a q ≡ false → before q ≡ all q)
+    → (q : EventPlace) → is_place_of t a q ≡ false → now q ≡ all q
 others_more t a port v all before now leaves was q other =
     leaves.others q
     ∙ stays (is_eq (place_cmp leaves.place q)) (before q) (λ e. let same : is_place_of t a q ≡ true = subst (λ z. is_place_of t a z ≡ true) (one_place leaves.place q e) (here t a leaves.place leaves.tag leaves.actor_is) in absurd cc)
     ∙ was q other
 
 -- the place of an event is where its actor's rank puts it
-pub its_place : (rank : ℕ → ℕ) (x : Place) (a p : ℕ) (t : Tag) → x.rank ≡ rank x.actor → x.tag ≡ t → x.actor ≡ a → x.port ≡ p → x ≡ place_of rank a p t
+pub its_place : (rank : ℕ → ℕ) (x : EventPlace) (a p : ℕ) (t : Tag) → x.rank ≡ rank x.actor → x.tag ≡ t → x.actor ≡ a → x.port ≡ p → x ≡ place_of rank a p t
 its_place rank x a p t ranked tag actor port = λ i. record { tag = tag i; rank = (ranked ∙ ap rank actor) i; actor = actor i; port = port i }
 
 same_or_not : (m k : ℕ) → (m ≡ k) ⊎ (m ≢ k)
@@ -52,7 +52,7 @@ same_or_not m k = dec_of (m == k) refl
     dec_of false e = inr (λ s. grind (arith, nat_tests))
 
 -- one event more was taken: its value stands at its port
-pub values_more : (rank : ℕ → ℕ) (actors steps : ℕ) (t : Tag) (a port : ℕ) (v : ℤ) (all before now : Place → Option ℤ) (values : List (Option ℤ)) (wanted : ℕ → Option ℤ) → length values ≡ 8
+pub values_more : (rank : ℕ → ℕ) (actors steps : ℕ) (t : Tag) (a port : ℕ) (v : ℤ) (all before now : EventPlace → Option ℤ) (values : List (Option ℤ)) (wanted : ℕ → Option ℤ) → length values ≡ 8
     → EventsArePlaced rank actors steps all → TakesOne t a port v before now → IsPart before all
     → ((p : ℕ) → p < 8 → or_else (before (place_of rank a p t)) (slice_index_or values p None) ≡ wanted p)
     → (p : ℕ) → p < 8 → or_else (now (place_of rank a p t)) (slice_index_or (slice_set values port (Some v)) p None) ≡ wanted p
@@ -69,7 +69,7 @@ values_more rank actors steps t a port v all before now values wanted len sound 
     ap (or_else (now (place_of rank a p t))) (get_or-set_other values port p (Some v) None ne)
     ∙ ap (λ x. or_else x (slice_index_or values p None))
     (leaves.others (place_of rank a p t)
-    ∙ stays (is_eq (place_cmp leaves.place (place_of rank a p t))) (before (place_of rank a p t)) (λ e. ne (ap (λ (z : Place). z.port) (sym (one_place leaves.place (place_of rank a p t) e)) ∙ leaves.port_is)))
+    ∙ stays (is_eq (place_cmp leaves.place (place_of rank a p t))) (before (place_of rank a p t)) (λ e. ne (ap (λ (z : EventPlace). z.port) (sym (one_place leaves.place (place_of rank a p t) e)) ∙ leaves.port_is)))
     ∙ was p low)
     (same_or_not p port)
   where
@@ -83,7 +83,7 @@ values_more rank actors steps t a port v all before now values wanted len sound 
     within = let low : leaves.place.port < 8 = placed.port in omega (arith, len, leaves.port_is, low)
 
 -- an event that was taken is at one of eight ports
-pub port_low : (rank : ℕ → ℕ) (actors steps : ℕ) (t : Tag) (a port : ℕ) (v : ℤ) (all before now : Place → Option ℤ) → EventsArePlaced rank actors steps all → TakesOne t a port v before now → IsPart before all → nat_lt port 8 ≡ true
+pub port_low : (rank : ℕ → ℕ) (actors steps : ℕ) (t : Tag) (a port : ℕ) (v : ℤ) (all before now : EventPlace → Option ℤ) → EventsArePlaced rank actors steps all → TakesOne t a port v before now → IsPart before all → nat_lt port 8 ≡ true
 port_low rank actors steps t a port v all before now sound leaves part =
     let placed = sound leaves.place (subst IsSome (sym (part leaves.place v leaves.was)) refl) in
     let low : leaves.place.port < 8 = placed.port in
@@ -122,13 +122,13 @@ or_not None h = refl
 or_not (Some v) h = absurd (h refl)
 
 -- where the first event isn't of that tag and actor, which come first, no event is
-pub none_left : (rank : ℕ → ℕ) (actors steps : ℕ) (t : Tag) (a : ℕ) (all now : Place → Option ℤ) → EventsArePlaced rank actors steps all → IsFirst rank (waits_in rank all) a t → IsPart now all
+pub none_left : (rank : ℕ → ℕ) (actors steps : ℕ) (t : Tag) (a : ℕ) (all now : EventPlace → Option ℤ) → EventsArePlaced rank actors steps all → IsFirst rank (waits_in rank all) a t → IsPart now all
     → NoneInFront t a now → (p : ℕ) → now (place_of rank a p t) ≡ None
 none_left rank actors steps t a all now sound first part front p =
-    ⊎_elim (λ (empty : (q : Place) → now q ≡ None). empty (place_of rank a p t))
-    (λ (other : (x : Place) × IsLeastPlace now x × (is_place_of t a x ≡ false)).
+    ⊎_elim (λ (empty : (q : EventPlace) → now q ≡ None). empty (place_of rank a p t))
+    (λ (other : (x : EventPlace) × IsLeastPlace now x × (is_place_of t a x ≡ false)).
     or_not (now (place_of rank a p t)) (λ some.
-    let x : Place = other.0 in
+    let x : EventPlace = other.0 in
     let value = as_some (now x) other.1.there in
     let was = part x value.0 value.1 in
     let placed = sound x (subst IsSome (sym was) refl) in
@@ -138,7 +138,7 @@ none_left rank actors steps t a all now sound first part front p =
     is_here t a x (rank a) (rank x.actor) placed.rank_is sooner later other.2))
     front
   where
-    is_here : (t : Tag) (a : ℕ) (x : Place) (r s : ℕ) → x.rank ≡ s
+    is_here : (t : Tag) (a : ℕ) (x : EventPlace) (r s : ℕ) → x.rank ≡ s
         → (x.tag.time ≤ t.time) × (t.time ≤ x.tag.time → (x.tag.step ≤ t.step) × (t.step ≤ x.tag.step → (x.rank ≤ r) × (r ≤ x.rank → x.actor ≤ a)))
         → (t.time ≤ x.tag.time) × (x.tag.time ≤ t.time → (t.step ≤ x.tag.step) × (x.tag.step ≤ t.step → (r ≤ s) × (s ≤ r → a ≤ x.actor)))
         → is_place_of t a x ≡ false → ⊥
@@ -155,7 +155,7 @@ none_left rank actors steps t a all now sound first part front p =
         grind (arith, nat_tests, common_steps)
 
 -- all that waited was taken
-pub all_taken : (rank : ℕ → ℕ) (t : Tag) (a : ℕ) (all now : Place → Option ℤ) (old values : List (Option ℤ)) → length values ≡ 8
+pub all_taken : (rank : ℕ → ℕ) (t : Tag) (a : ℕ) (all now : EventPlace → Option ℤ) (old values : List (Option ℤ)) → length values ≡ 8
     → ((p : ℕ) → p < 8 → or_else (now (place_of rank a p t)) (slice_index_or values p None) ≡ or_else (all (place_of rank a p t)) (slice_index_or old p None))
     → ((p : ℕ) → now (place_of rank a p t) ≡ None) → values ≡ eight (λ p. or_else (waits_in rank all a p t) (at_port old p))
 all_taken rank t a all now old values len at none =
@@ -165,8 +165,8 @@ of_is : (t : Tag) (a b : ℕ) (u : Tag) → (b == a && same_tag t u) ≡ true �
 of_is t a b u h = (grind (arith, nat_tests, common_steps), grind (arith, nat_tests, common_steps), grind (arith, nat_tests, common_steps))
 
 -- and nothing else
-pub waits_without : (rank : ℕ → ℕ) (t : Tag) (a : ℕ) (all now : Place → Option ℤ)
-    → ((q : Place) → is_place_of t a q ≡ false → now q ≡ all q)
+pub waits_without : (rank : ℕ → ℕ) (t : Tag) (a : ℕ) (all now : EventPlace → Option ℤ)
+    → ((q : EventPlace) → is_place_of t a q ≡ false → now q ≡ all q)
     → ((p : ℕ) → now (place_of rank a p t) ≡ None) → waits_in rank now ≡ without (waits_in rank all) a t
 waits_without rank t a all now others none = λ i b p u. at b p u i
   where
@@ -181,7 +181,7 @@ waits_without rank t a all now others none = λ i b p u. at b p u i
     at b p u = by b p u (b == a && same_tag t u) refl
 
 -- a part of sound events is sound
-pub sound_part : (rank : ℕ → ℕ) (actors steps : ℕ) (all now : Place → Option ℤ) → EventsArePlaced rank actors steps all → IsPart now all → EventsArePlaced rank actors steps now
+pub sound_part : (rank : ℕ → ℕ) (actors steps : ℕ) (all now : EventPlace → Option ℤ) → EventsArePlaced rank actors steps all → IsPart now all → EventsArePlaced rank actors steps now
 sound_part rank actors steps all now sound part x h =
     let value = as_some (now x) h in
     sound x (subst IsSome (sym (part x value.0 value.1)) refl)

@@ -6,7 +6,7 @@ use Rattle.pt_tags.specs.declared.tag.Tag.{Tag}
 use Rattle.pt_tags.specs.Tags.{same_tag}
 use Rattle.pt_types.specs.Ports.{when, at_port}
 use Rattle.pt_semantics.specs.Firing.{any_present}
-use Rattle.pt_meaning.specs.declared.place.Place.{Place}
+use Rattle.pt_meaning.specs.declared.place.EventPlace.{EventPlace}
 use Rattle.pt_meaning.specs.declared.order.Standing.{Standing}
 use Rattle.pt_meaning.specs.Ready.{ports_at}
 
@@ -30,7 +30,7 @@ abbrev pub StandingsRise : List Standing → Type 0
 StandingsRise order = (i j : ℕ) → i ≤ j → j < length order → StandsUpTo (standing_at order i) (standing_at order j)
 
 -- this is the actor of a place
-abbrev pub is_standing_of : Place → Standing → Bool
+abbrev pub is_standing_of : EventPlace → Standing → Bool
 is_standing_of q s = s.rank == q.rank && s.actor == q.actor
 
 -- the position of an actor; the number of positions if it has none
@@ -38,7 +38,7 @@ abbrev pub position_at : List Standing → List ℕ → ℕ → ℕ
 position_at order positions actor = slice_index_or positions actor (length order)
 
 -- the value at a place: that at the position of its actor, if the tag is that of the place
-abbrev pub slate_value : Tag → List Standing → List ℕ → List (List (Option ℤ)) → Place → Option ℤ
+abbrev pub slate_value : Tag → List Standing → List ℕ → List (List (Option ℤ)) → EventPlace → Option ℤ
 slate_value tag order positions inputs q =
     when (same_tag tag q.tag && is_standing_of q (standing_at order (position_at order positions q.actor))) (at_port (ports_at inputs (position_at order positions q.actor)) q.port)
 
@@ -50,7 +50,7 @@ pub record Slate : Type 0 where
   pub inputs : List (List (Option ℤ))
 
 -- the value at a place of the events of a tag
-abbrev pub current_value : Slate → Place → Option ℤ
+abbrev pub current_value : Slate → EventPlace → Option ℤ
 current_value s = slate_value s.tag s.order s.positions s.inputs
 
 -- actors in the order in which they fire, each with its inputs; where there are values, the position is that of its actor

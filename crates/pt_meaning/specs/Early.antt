@@ -5,18 +5,19 @@ use Rattle.std.specs.Ordering.{nat_cmp, ordering_then}
 use Rattle.pt_tags.specs.declared.tag.Tag.{Tag}
 use Rattle.pt_semantics.specs.Lists.{Each}
 use Rattle.pt_semantics.specs.Meaning.{Values, added, at_time}
-use Rattle.pt_meaning.specs.declared.place.Place.{Place}
-use Rattle.pt_meaning.specs.declared.early.Moment.{Moment}
+use Rattle.pt_meaning.specs.declared.place.EventPlace.{EventPlace}
+use Rattle.pt_meaning.specs.declared.early.EarlyMoment.{EarlyMoment}
 use Rattle.pt_meaning.specs.declared.early.Early.{Early}
 use Rattle.pt_meaning.specs.declared.early.EarlyList.{EarlyList}
 use Rattle.pt_meaning.specs.Opening.{start_event}
+use Rattle.pt_meaning.specs.Waiting.{rank_in}
 
 -- when an event fires
-abbrev pub event_moment : Early → Moment
+abbrev pub event_moment : Early → EarlyMoment
 event_moment e = e.moment
 
 -- the order of moments: by time, rank and actor
-abbrev pub event_moment_cmp : Moment → Moment → Ordering
+abbrev pub event_moment_cmp : EarlyMoment → EarlyMoment → Ordering
 event_moment_cmp x y = ordering_then (nat_cmp x.time y.time) (ordering_then (nat_cmp x.rank y.rank) (nat_cmp x.actor y.actor))
 
 -- the value that waits at each input and tag; if several events are at one, the first
@@ -29,7 +30,7 @@ abbrev pub left : EarlyList → List Early
 left list = drop list.next list.events.items
 
 -- the place of a starting event: step 0 of its time, and input 0 of its actor
-abbrev pub place_of_early : Early → Place
+abbrev pub place_of_early : Early → EventPlace
 place_of_early e = record { tag = at_time e.moment.time; rank = e.moment.rank; actor = e.moment.actor; port = 0 }
 
 -- an event has its actor's rank, and its actor is one of that many
@@ -70,3 +71,7 @@ pub record Heads (t : Tag) (a : ℕ) (value : ℤ) (old new : List Early) : Type
 abbrev pub NotAtHead : Tag → ℕ → List Early → Type 0
 NotAtHead t a [] = Unit {0}
 NotAtHead t a (e ∷ events) = is_event_at t a e ≡ false
+
+-- if the actor is one of so many, and each event has its actor's rank and one of these, this still holds
+abbrev pub StayEarly : List ℕ → ℕ → List Early → List Early → Type 0
+StayEarly ranks actor old new = (actors : ℕ) → actor < actors → AreEarly (rank_in ranks) actors old → AreEarly (rank_in ranks) actors new

@@ -8,6 +8,7 @@ pub mod Early
 pub mod Both
 pub mod Emission
 pub mod Opening
+pub mod Placed
 pub mod Ready
 pub mod Current
 pub mod ComesFirst

@@ -29,3 +29,7 @@ rows_of_actor until actor rows a p t = when (actor == a && p == 0) (row_at (rows
 -- the rows of all sensors up to the horizon
 abbrev pub rows_from_sensors : ℕ → List SensorRows → Values
 rows_from_sensors until sensors a p t = when (p == 0) (row_at (rows_until until (rows_for sensors a)) t)
+
+-- the rows of each actor that take part in the run: those up to the horizon
+abbrev pub rows_of_run : Graph → List SensorRows → ℕ → List Row
+rows_of_run g sensors = λ a. rows_until g.until (rows_for sensors a)

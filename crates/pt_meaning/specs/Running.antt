@@ -11,7 +11,7 @@ use Rattle.pt_semantics.specs.Edges.{edges, first_state}
 use Rattle.pt_types.specs.Lookups.{kind_of}
 use Rattle.pt_types.specs.declared.rows.Row.{Row}
 use Rattle.pt_semantics.specs.Meaning.{World, ActorFiring, IsMeaning}
-use Rattle.pt_meaning.specs.declared.world.Waiting.{Waiting}
+use Rattle.pt_meaning.specs.declared.world.WaitingEvents.{WaitingEvents}
 use Rattle.pt_meaning.specs.Both.{all_waits}
 use Rattle.pt_meaning.specs.Waiting.{rank_in}
 use Rattle.pt_meaning.specs.Emission.{IsUsable}
@@ -21,7 +21,7 @@ abbrev pub states_from : List ℤ → ℕ → ℤ
 states_from states a = slice_index_or states a (pos 0)
 
 -- the world represented by the events that wait and a list of states
-abbrev pub world_in : List ℕ → Waiting → List ℤ → World
+abbrev pub world_in : List ℕ → WaitingEvents → List ℤ → World
 world_in ranks waiting states = record { waits = all_waits (rank_in ranks) waiting; states = states_from states }
 
 -- a graph with fewer than 2^32 actors, lawful kinds, and edges that lead to its actors' ports

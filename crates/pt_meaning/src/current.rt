@@ -2,17 +2,17 @@
 
 ghost use Rattle.std.specs.Prelude.{◌≡◌, ◌==◌, ◌&&◌, ℕ, nat_lt, IfOk, IfSome, IfNone, MatchBool, MatchOption, None, true, length};
 ghost use Rattle.pt_tags.specs.declared.tag.Tag.{Tag};
-ghost use Rattle.pt_semantics.specs.Firing.{any_present};
-ghost use Rattle.pt_semantics.specs.Meaning.{IsFirst, waiting, without};
-ghost use Rattle.pt_meaning.specs.declared.place.Place.{Place};
+ghost use Rattle.pt_semantics.specs.Meaning.{without};
+ghost use Rattle.pt_meaning.specs.declared.place.EventPlace.{EventPlace};
 ghost use Rattle.pt_meaning.specs.Current.{current_value, is_standing_of, standing_at, IsPositionOf};
 ghost use Rattle.pt_meaning.specs.ComesFirst.{ComesFirst};
 ghost use Rattle.pt_meaning.specs.Front.{Enters};
-ghost use Rattle.pt_meaning.specs.Waiting.{place_of, waits_in, IsPlaceIn, EventsArePlaced};
+ghost use Rattle.pt_meaning.specs.Placed.{FiresFirst, GivesInputs, HasInput, IsPlaced, NoneWaits, StayPlaced, Takes};
+ghost use Rattle.pt_meaning.specs.Waiting.{place_of};
 
 use crate::moments::number;
 use crate::order::{Standing, firing_order, position_of, positions_in};
-use crate::place::Place;
+use crate::place::EventPlace;
 use crate::ready::ReadyInputs;
 use pt_tags::{Memory, Tag};
 use pt_types::Ports;
@@ -44,7 +44,7 @@ impl Model for Current {
 impl Current {
     /// No events, of actors with these ranks.
     pub fn new(alloc: Global, ranks: &[u32]) -> Result<Current, Memory>
-        ensures { IfOk result (λ current. (q : Place) → current_value current q ≡ None) }
+        ensures { IfOk result (λ current. (q : EventPlace) → current_value current q ≡ None) }
     {
         let order = firing_order(alloc, ranks)?;
         let positions = positions_in(alloc, order.as_slice())?;
@@ -59,12 +59,12 @@ impl Current {
 
     /// The place of the first actor with events, at its input 0.
     #[inline(always)]
-    fn leader(&self) -> Option<Place>
-        ensures { MatchOption result ((q : Place) → current_value self.now q ≡ None) (ComesFirst (current_value self.now)) }
+    fn leader(&self) -> Option<EventPlace>
+        ensures { MatchOption result ((q : EventPlace) → current_value self.now q ≡ None) (ComesFirst (current_value self.now)) }
     {
         let position = self.inputs.first()?;
         let standing = self.order[position];
-        Some(Place {
+        Some(EventPlace {
             tag: self.tag,
             rank: standing.rank,
             actor: standing.actor,
@@ -74,11 +74,11 @@ impl Current {
 
     /// The place of the first actor with events, at its input 0.
     #[inline(always)]
-    pub fn first(&self) -> Option<Place>
-        ensures first { IfSome result (λ next. (rank : ℕ → ℕ) (actors steps : ℕ) → EventsArePlaced rank actors steps (current_value self.now) → IsFirst rank (waits_in rank (current_value self.now)) next.actor next.tag) }
-        ensures present { IfSome result (λ next. (rank : ℕ → ℕ) (actors steps : ℕ) → EventsArePlaced rank actors steps (current_value self.now) → any_present (waiting (waits_in rank (current_value self.now)) next.actor next.tag) ≡ true) }
-        ensures within { IfSome result (λ next. (rank : ℕ → ℕ) (actors steps : ℕ) → EventsArePlaced rank actors steps (current_value self.now) → IsPlaceIn rank actors steps next) }
-        ensures empty { IfNone result ((rank : ℕ → ℕ) (a p : ℕ) (t : Tag) → waits_in rank (current_value self.now) a p t ≡ None) }
+    pub fn first(&self) -> Option<EventPlace>
+        ensures first { IfSome result (FiresFirst (current_value self.now)) }
+        ensures present { IfSome result (HasInput (current_value self.now)) }
+        ensures within { IfSome result (IsPlaced (current_value self.now)) }
+        ensures empty { IfNone result (NoneWaits (current_value self.now)) }
     {
         self.leader()
     }
@@ -86,7 +86,7 @@ impl Current {
     /// Adds an event, unless one waits at its place. Returns false, and adds nothing, if it is of another tag or its actor has
     /// no position.
     #[inline(always)]
-    pub fn enter(&mut self, place: Place, value: i64) -> bool
+    pub fn enter(&mut self, place: EventPlace, value: i64) -> bool
         ensures { MatchBool result (Enters place value (current_value self.old) (current_value self.new)) ((current_value self.old place ≡ None) × (self.new ≡ self.old)) }
     {
         let position = position_of(self.positions.as_slice(), place.actor, self.order.len());
@@ -119,9 +119,9 @@ impl Current {
     /// Takes an actor's events of a tag, and writes their values over `inputs`.
     #[inline(always)]
     pub fn take(&mut self, tag: Tag, actor: u32, inputs: &mut Ports)
-        ensures inputs { (rank : ℕ → ℕ) (actors steps : ℕ) → EventsArePlaced rank actors steps (current_value self.old) → inputs.new ≡ waiting (waits_in rank (current_value self.old)) actor tag }
-        ensures waits { (rank : ℕ → ℕ) (actors steps : ℕ) → EventsArePlaced rank actors steps (current_value self.old) → waits_in rank (current_value self.new) ≡ without (waits_in rank (current_value self.old)) actor tag }
-        ensures sound { (rank : ℕ → ℕ) (actors steps : ℕ) → EventsArePlaced rank actors steps (current_value self.old) → EventsArePlaced rank actors steps (current_value self.new) }
+        ensures inputs { GivesInputs (current_value self.old) actor tag inputs.new }
+        ensures waits { Takes actor tag (current_value self.old) (current_value self.new) }
+        ensures sound { StayPlaced (current_value self.old) (current_value self.new) }
         ensures len { length inputs.new ≡ 8 }
     {
         let Some(position) = self.position(tag, actor) else {
@@ -133,7 +133,7 @@ impl Current {
 
     /// Lets a tag run, unless there are events of another one.
     pub fn begin(&mut self, tag: Tag)
-        ensures { (q : Place) → current_value self.new q ≡ current_value self.old q }
+        ensures { (q : EventPlace) → current_value self.new q ≡ current_value self.old q }
     {
         if tag == self.tag || self.inputs.first().is_some() {
             return;
@@ -144,7 +144,7 @@ impl Current {
 
 /// Whether the actor at a position is that of a place.
 #[inline(always)]
-fn stands_at(order: &[Standing], position: usize, place: Place) -> bool
+fn stands_at(order: &[Standing], position: usize, place: EventPlace) -> bool
     ensures { result ≡ (nat_lt position (length order.now) && is_standing_of place (standing_at order.now position)) }
 {
     position < order.len()

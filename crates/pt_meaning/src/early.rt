@@ -8,13 +8,13 @@ ghost use Rattle.pt_meaning.specs.declared.early.Early.{Early};
 ghost use Rattle.pt_semantics.specs.Meaning.{IsFirst, waiting, without};
 ghost use Rattle.pt_meaning.specs.Early.{event_moment, event_moment_cmp, early_waits, is_event_at, left, place_of_early, AreEarly, Heads, IsFiringOrder, NotAtHead};
 
-use crate::place::Place;
-use pt_tags::{Memory, Tag};
+use crate::place::EventPlace;
+use pt_tags::{Memory, Tag, Time};
 
 /// When a starting event fires: moments are ordered by time, rank and actor, as the events fire.
 #[derive(Clone, Copy, Debug, PartialEq, Eq, PartialOrd, Ord)]
-pub struct Moment {
-    pub time: u64,
+pub struct EarlyMoment {
+    pub time: Time,
     pub rank: u32,
     pub actor: u32,
 }
@@ -22,7 +22,7 @@ pub struct Moment {
 /// A starting event, at input 0 of an actor at step 0 of a time (in microseconds).
 #[derive(Clone, Copy, Debug, PartialEq, Eq)]
 pub struct Early {
-    pub moment: Moment,
+    pub moment: EarlyMoment,
     pub value: i64,
 }
 
@@ -66,11 +66,11 @@ impl EarlyList {
     }
 
     /// The place of the first event not taken yet.
-    pub fn first(&self) -> Option<Place>
+    pub fn first(&self) -> Option<EventPlace>
         ensures { MatchOption result (left self.now ≡ []) (λ place. (event : Early) × (rest : List Early) × (left self.now ≡ event ∷ rest) × (place ≡ place_of_early event)) }
     {
         let event = self.head()?;
-        Some(Place {
+        Some(EventPlace {
             tag: Tag {
                 time: event.moment.time,
                 step: 0,

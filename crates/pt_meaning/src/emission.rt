@@ -9,8 +9,8 @@ ghost use Rattle.pt_meaning.specs.Held.{late_value};
 ghost use Rattle.pt_meaning.specs.Emission.{IsUsable, AddsOneStep, LeavesActor};
 
 use crate::late::Late;
-use crate::place::Place;
-use pt_tags::{Delay, Memory, Tag};
+use crate::place::EventPlace;
+use pt_tags::{Delay, Memory, Tag, Time};
 use pt_types::{Edge, Ports};
 
 /// The rank of an actor; 0 past the table's end.
@@ -22,7 +22,7 @@ pub fn rank_at(ranks: &[u32], actor: u32) -> u32
 
 /// Whether the time of a tag plus a weight is past the horizon.
 #[inline(always)]
-fn is_past(tag: Tag, weight: Delay, until: u64) -> bool
+fn is_past(tag: Tag, weight: Delay, until: Time) -> bool
     ensures { MatchBool result (until < tag.time + weight.time) (tag.time + weight.time ≤ until) }
 {
     match tag.time.checked_add(weight.time) {
@@ -35,7 +35,7 @@ fn is_past(tag: Tag, weight: Delay, until: u64) -> bool
 fn emit_along(
     late: &mut Late,
     ranks: &[u32],
-    until: u64,
+    until: Time,
     edge: Edge,
     tag: Tag,
     outputs: &Ports,
@@ -56,7 +56,7 @@ fn emit_along(
         time: tag.time + edge.weight.time,
         step: tag.step + edge.weight.step,
     };
-    let place = Place {
+    let place = EventPlace {
         tag: later,
         rank: rank_at(ranks, edge.to),
         actor: edge.to,
@@ -69,7 +69,7 @@ fn emit_along(
 pub fn emit(
     late: &mut Late,
     ranks: &[u32],
-    until: u64,
+    until: Time,
     edges: &[Edge],
     tag: Tag,
     outputs: &Ports,

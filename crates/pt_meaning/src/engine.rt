@@ -5,17 +5,18 @@ ghost use Rattle.pt_semantics.specs.Edges.{edges};
 ghost use Rattle.pt_types.specs.Lookups.{kind_of};
 ghost use Rattle.pt_types.specs.Ports.{eight, nothing};
 ghost use Rattle.pt_semantics.specs.Lists.{Each};
-ghost use Rattle.pt_semantics.specs.Meaning.{Fires, IsFirst, after_firing, at_start, leaves_actor, put_state, rows_until, waiting};
+ghost use Rattle.pt_semantics.specs.Meaning.{Fires, IsFirst, after_firing, at_start, leaves_actor, put_state, waiting};
 ghost use Rattle.pt_semantics.specs.Firing.{any_present, fired};
 ghost use Rattle.pt_meaning.specs.Waiting.{rank_in};
 ghost use Rattle.pt_meaning.specs.Both.{all_waits, AreSound};
-ghost use Rattle.pt_sensors.specs.Listed.{rows_for, IsOfActors};
+ghost use Rattle.pt_sensors.specs.Listed.{IsOfActors};
+ghost use Rattle.pt_meaning.specs.Opening.{rows_of_run};
 ghost use Rattle.pt_meaning.specs.Running.{world_in, states_from, state_at_start, actor_firing, IsRunnable};
 
 use crate::emission::emit;
 use crate::late::Late;
 use crate::opening::opening;
-use crate::world::Waiting;
+use crate::world::WaitingEvents;
 use pt_actors::fire_into;
 use pt_sensors::SensorRows;
 use pt_tags::{Memory, Tag};
@@ -25,7 +26,7 @@ use std::alloc::{AllocError, Global};
 /// The events that wait, and the states of the actors.
 #[derive(Drop)]
 pub struct GlobalList {
-    pub waiting: Waiting,
+    pub waiting: WaitingEvents,
     pub states: Vec<i64>,
 }
 
@@ -60,13 +61,13 @@ pub fn begin(
 ) -> Result<GlobalList, Memory>
     requires actors { length graph.now.actors < 2 ^ 32 }
     requires sensors { Each (IsOfActors (length graph.now.actors)) sensors.now }
-    ensures world { IfOk result (λ list. world_in ranks.now list.waiting list.states.items ≡ at_start graph.now (λ a. rows_until graph.now.until (rows_for sensors.now a))) }
+    ensures world { IfOk result (λ list. world_in ranks.now list.waiting list.states.items ≡ at_start graph.now (rows_of_run graph.now sensors.now)) }
     ensures states { IfOk result (λ list. length list.states.items ≡ length graph.now.actors) }
     ensures sound { IfOk result (λ list. AreSound (rank_in ranks.now) (length graph.now.actors) 0 list.waiting) }
 {
     let early = opening(alloc, graph, ranks, sensors)?;
     let late = Late::new(alloc, ranks)?;
-    let waiting = Waiting { early, late };
+    let waiting = WaitingEvents { early, late };
     let states = states(alloc, graph)?;
     Ok(GlobalList { waiting, states })
 }

@@ -12,7 +12,7 @@ use std::marker::Model;
 
 /// The actor of a firing, the index of its tag, and where its values end; they begin where those of the firing before end.
 #[derive(Clone, Copy, Debug, PartialEq, Eq)]
-pub struct Mark {
+pub struct FiringEntry {
     pub actor: u32,
     pub moment: u32,
     pub end: u32,
@@ -21,7 +21,7 @@ pub struct Mark {
 /// A compact list of firings, which contracts see as a list of whole firings.
 #[derive(Drop)]
 pub struct Firings {
-    marks: Vec<Mark>,
+    marks: Vec<FiringEntry>,
     tags: Vec<Tag>,
     places: Vec<u8>,
     values: Vec<i64>,
@@ -72,7 +72,7 @@ impl Firings {
         let moment = moment_of(&mut tags, firing.tag)?;
         push_firing(&mut places, &mut values, firing)?;
         let end = number(places.len())?;
-        let mark = Mark {
+        let mark = FiringEntry {
             actor: firing.actor,
             moment,
             end,
@@ -118,7 +118,7 @@ impl Firings {
 }
 
 /// The index at which the values of a firing begin.
-fn start_at(marks: &[Mark], number: usize) -> u32
+fn start_at(marks: &[FiringEntry], number: usize) -> u32
     ensures { result ≡ values_start_at 0 marks.now number }
 {
     if number == 0 {

@@ -1,20 +1,17 @@
 //! Taking events from the front of those that wait.
 
 ghost use Rattle.std.specs.Prelude.{◌≡◌, ◌<◌, ℕ, ℤ, Option, IfSome, IfNone, Some, length, nat_lt, slice_set, if◌then◌else◌};
-ghost use Rattle.pt_types.specs.Ports.{at_port, eight};
-ghost use Rattle.pt_semantics.specs.Lists.{or_else};
-ghost use Rattle.pt_semantics.specs.Meaning.{IsFirst, without};
-ghost use Rattle.pt_meaning.specs.declared.place.Place.{Place};
-ghost use Rattle.pt_meaning.specs.Waiting.{waits_in, EventsArePlaced};
+ghost use Rattle.pt_meaning.specs.declared.place.EventPlace.{EventPlace};
+ghost use Rattle.pt_meaning.specs.Placed.{PutsFirstInputs, StayPlaced, TakesFirst};
 ghost use Rattle.pt_meaning.specs.Front.{TakesOne, NoneInFront};
 
 use pt_tags::Tag;
 use pt_types::Ports;
 
 /// Events that wait, the first of which can be taken.
-pub trait Front {
+pub trait TakeFirst {
     /// The value that waits at each place.
-    ghost held: { Self → Place → Option ℤ };
+    ghost held: { Self → EventPlace → Option ℤ };
 
     /// The number of events.
     ghost count: { Self → ℕ };
@@ -27,11 +24,11 @@ pub trait Front {
 }
 
 /// Takes an actor's events of a tag, which must be the first, and writes their values at its inputs.
-pub fn take_all<F: Front>(front: &mut F, tag: Tag, actor: u32, inputs: &mut Ports)
+pub fn take_all<F: TakeFirst>(front: &mut F, tag: Tag, actor: u32, inputs: &mut Ports)
     requires { length inputs.old ≡ 8 }
-    ensures inputs { (rank : ℕ → ℕ) (actors steps : ℕ) → EventsArePlaced rank actors steps (F.held front.old) → IsFirst rank (waits_in rank (F.held front.old)) actor tag → inputs.new ≡ eight (λ p. or_else (waits_in rank (F.held front.old) actor p tag) (at_port inputs.old p)) }
-    ensures waits { (rank : ℕ → ℕ) (actors steps : ℕ) → EventsArePlaced rank actors steps (F.held front.old) → IsFirst rank (waits_in rank (F.held front.old)) actor tag → waits_in rank (F.held front.new) ≡ without (waits_in rank (F.held front.old)) actor tag }
-    ensures sound { (rank : ℕ → ℕ) (actors steps : ℕ) → EventsArePlaced rank actors steps (F.held front.old) → EventsArePlaced rank actors steps (F.held front.new) }
+    ensures inputs { PutsFirstInputs (F.held front.old) actor tag inputs.old inputs.new }
+    ensures waits { TakesFirst actor tag (F.held front.old) (F.held front.new) }
+    ensures sound { StayPlaced (F.held front.old) (F.held front.new) }
     ensures len { length inputs.new ≡ 8 }
 {
     while let Some((port, value)) = front.take_first(tag, actor) {

@@ -6,7 +6,7 @@ ghost use Rattle.pt_meaning.specs.Line.{begins_with, in_line, AreAfter, AreBefor
 ghost use Rattle.pt_meaning.specs.Waiting.{place_cmp};
 
 use crate::line::Sent;
-use crate::place::{Place, is_of};
+use crate::place::{EventPlace, is_of};
 use pt_tags::{Memory, Tag};
 use std::collections::VecDeque;
 
@@ -15,7 +15,7 @@ const MOVED: usize = 256;
 
 /// The place of the first of these events.
 #[inline(always)]
-pub(crate) fn place_at_front(events: &VecDeque<Sent>) -> Option<Place>
+pub(crate) fn place_at_front(events: &VecDeque<Sent>) -> Option<EventPlace>
     ensures { MatchOption result (events.now.items ≡ []) (λ place. (sent : Sent) × (rest : List Sent) × (events.now.items ≡ sent ∷ rest) × (place ≡ sent.place)) }
 {
     match events.front() {
@@ -37,7 +37,7 @@ pub(crate) fn begins_with(events: &VecDeque<Sent>, tag: Tag, actor: u32) -> bool
 
 /// Whether all of these events, which are in order, are before a place.
 #[inline(always)]
-pub(crate) fn ends_before(events: &VecDeque<Sent>, place: Place) -> bool
+pub(crate) fn ends_before(events: &VecDeque<Sent>, place: EventPlace) -> bool
     ensures { IsTrue result → IsSortedLine place_cmp events.now.items → AreBefore place_cmp place events.now.items }
 {
     match events.back() {
@@ -47,7 +47,7 @@ pub(crate) fn ends_before(events: &VecDeque<Sent>, place: Place) -> bool
 }
 
 /// Whether all of these events, which are in order, are after a place.
-pub(crate) fn begins_after(events: &VecDeque<Sent>, place: Place) -> bool
+pub(crate) fn begins_after(events: &VecDeque<Sent>, place: EventPlace) -> bool
     ensures { IsTrue result → IsSortedLine place_cmp events.now.items → AreAfter place_cmp place events.now.items }
 {
     match events.front() {
@@ -57,7 +57,7 @@ pub(crate) fn begins_after(events: &VecDeque<Sent>, place: Place) -> bool
 }
 
 /// Whether the last of these events is at a place.
-pub(crate) fn ends_at(events: &VecDeque<Sent>, place: Place) -> bool
+pub(crate) fn ends_at(events: &VecDeque<Sent>, place: EventPlace) -> bool
     ensures { IsTrue result → IsSome (in_line place_cmp events.now.items place) }
 {
     match events.back() {
@@ -68,7 +68,7 @@ pub(crate) fn ends_at(events: &VecDeque<Sent>, place: Place) -> bool
 
 /// Whether a place is between the events of two parts of a line.
 #[inline(always)]
-fn fits(before: &VecDeque<Sent>, after: &VecDeque<Sent>, place: Place) -> bool
+fn fits(before: &VecDeque<Sent>, after: &VecDeque<Sent>, place: EventPlace) -> bool
     ensures { IsTrue result → IsSortedLine place_cmp (before.now.items ++ after.now.items) → AreBefore place_cmp place before.now.items × AreAfter place_cmp place after.now.items }
 {
     ends_before(before, place) && begins_after(after, place)
@@ -79,7 +79,7 @@ fn fits(before: &VecDeque<Sent>, after: &VecDeque<Sent>, place: Place) -> bool
 pub(crate) fn reach(
     before: &mut VecDeque<Sent>,
     after: &mut VecDeque<Sent>,
-    place: Place,
+    place: EventPlace,
 ) -> Result<bool, Memory>
     ensures same { before.new.items ++ after.new.items ≡ before.old.items ++ after.old.items }
     ensures there { IfOk result (λ there. IsTrue there → IsSortedLine place_cmp (before.new.items ++ after.new.items) → AreBefore place_cmp place before.new.items × AreAfter place_cmp place after.new.items) }
@@ -96,7 +96,7 @@ pub(crate) fn reach(
 fn move_back(
     before: &mut VecDeque<Sent>,
     after: &mut VecDeque<Sent>,
-    place: Place,
+    place: EventPlace,
 ) -> Result<(), Memory>
     ensures { before.new.items ++ after.new.items ≡ before.old.items ++ after.old.items }
 {
@@ -113,7 +113,7 @@ fn move_back(
 fn move_on(
     before: &mut VecDeque<Sent>,
     after: &mut VecDeque<Sent>,
-    place: Place,
+    place: EventPlace,
 ) -> Result<(), Memory>
     ensures { before.new.items ++ after.new.items ≡ before.old.items ++ after.old.items }
 {

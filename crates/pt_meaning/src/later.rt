@@ -2,12 +2,12 @@
 
 ghost use Rattle.std.specs.Prelude.{◌≡◌, ℕ, MatchOption, OnOk, IsTrue, None};
 ghost use Rattle.std.specs.BTreeMap as tree;
-ghost use Rattle.pt_meaning.specs.declared.place.Place.{Place};
+ghost use Rattle.pt_meaning.specs.declared.place.EventPlace.{EventPlace};
 ghost use Rattle.pt_meaning.specs.Front.{Enters, IsLeastPlace, Replaces};
 ghost use Rattle.pt_meaning.specs.Waiting.{place_cmp};
 
-use crate::front::Front;
-use crate::place::{Place, is_of};
+use crate::front::TakeFirst;
+use crate::place::{EventPlace, is_of};
 use pt_tags::{Memory, Tag};
 use std::alloc::Global;
 use std::collections::BTreeMap;
@@ -15,13 +15,13 @@ use std::collections::BTreeMap;
 /// Events that wait, by place.
 #[derive(Drop)]
 pub struct Later {
-    pub events: BTreeMap<Place, i64>,
+    pub events: BTreeMap<EventPlace, i64>,
 }
 
 impl Later {
     /// No events.
     pub fn new(alloc: Global) -> Later
-        ensures { (q : Place) → tree.get place_cmp result.events q ≡ None }
+        ensures { (q : EventPlace) → tree.get place_cmp result.events q ≡ None }
     {
         Later {
             events: BTreeMap::new(alloc),
@@ -29,8 +29,8 @@ impl Later {
     }
 
     /// The place of the first event.
-    pub fn first(&self) -> Option<Place>
-        ensures { MatchOption result ((q : Place) → tree.get place_cmp self.now.events q ≡ None) (λ place. IsLeastPlace (tree.get place_cmp self.now.events) place) }
+    pub fn first(&self) -> Option<EventPlace>
+        ensures { MatchOption result ((q : EventPlace) → tree.get place_cmp self.now.events q ≡ None) (λ place. IsLeastPlace (tree.get place_cmp self.now.events) place) }
     {
         match self.events.first_key_value() {
             Some((place, _)) => Some(*place),
@@ -39,7 +39,7 @@ impl Later {
     }
 
     /// Whether all events are after a place.
-    pub fn is_after(&self, place: Place) -> bool
+    pub fn is_after(&self, place: EventPlace) -> bool
         ensures { IsTrue result → tree.get place_cmp self.now.events place ≡ None }
     {
         match self.events.first_key_value() {
@@ -49,7 +49,7 @@ impl Later {
     }
 
     /// Adds an event, unless one waits at its place.
-    pub fn enter(&mut self, place: Place, value: i64) -> Result<(), Memory>
+    pub fn enter(&mut self, place: EventPlace, value: i64) -> Result<(), Memory>
         ensures { OnOk result (Enters place value (tree.get place_cmp self.old.events) (tree.get place_cmp self.new.events)) }
     {
         match self.events.insert(place, value)? {
@@ -59,7 +59,7 @@ impl Later {
     }
 
     /// Sets the value at a place.
-    fn put_back(&mut self, place: Place, value: i64) -> Result<(), Memory>
+    fn put_back(&mut self, place: EventPlace, value: i64) -> Result<(), Memory>
         ensures { OnOk result (Replaces place value (tree.get place_cmp self.old.events) (tree.get place_cmp self.new.events)) }
     {
         self.events.insert(place, value)?;
@@ -67,7 +67,7 @@ impl Later {
     }
 }
 
-impl Front for Later {
+impl TakeFirst for Later {
     ghost held = { λ later. tree.get place_cmp later.events };
 
     ghost count = { λ later. tree.btree_map_len later.events };

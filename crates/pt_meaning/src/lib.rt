@@ -8,7 +8,7 @@
 //! A receiver takes the firings as they happen. `Firings` is a compact list of them: only values that are present are stored,
 //! one after another, and consecutive firings at one tag share it. Contracts see the list of whole firings.
 //!
-//! Read first: `fire_all` and `Receiver`, then `engine.rt`, `world.rt`, `late.rt` and `Firings`.
+//! Read first: `reference` and `Receiver`, then `engine.rt`, `world.rt`, `late.rt` and `Firings`.
 #![tactic(auto)]
 
 mod bits;
@@ -34,5 +34,5 @@ mod receiver;
 mod world;
 
 pub use firings::Firings;
-pub use meaning::{MeaningFault, fire_all};
+pub use meaning::{MeaningFault, reference};
 pub use receiver::Receiver;

@@ -1,15 +1,15 @@
 //! A line of events that wait, in the order in which they fire.
 
 ghost use Rattle.std.specs.Prelude.{◌≡◌, ◌++◌, ◌∷◌, [], List, IfOk, IsTrue, MatchBool, MatchOption, None, length};
-ghost use Rattle.pt_meaning.specs.declared.place.Place.{Place};
+ghost use Rattle.pt_meaning.specs.declared.place.EventPlace.{EventPlace};
 ghost use Rattle.pt_meaning.specs.declared.line.Sent.{Sent};
 ghost use Rattle.pt_meaning.specs.Front.{Enters, IsLeastPlace};
 ghost use Rattle.pt_meaning.specs.Line.{begins_with, in_line, AreBefore, IsSortedLine};
 ghost use Rattle.pt_meaning.specs.Waiting.{place_cmp};
 
-use crate::front::Front;
+use crate::front::TakeFirst;
 use crate::gap::{begins_with, ends_at, ends_before, place_at_front, reach};
-use crate::place::Place;
+use crate::place::EventPlace;
 use pt_tags::{Memory, Tag};
 use std::alloc::Global;
 use std::collections::VecDeque;
@@ -18,7 +18,7 @@ use std::marker::Model;
 /// An event that waits.
 #[derive(Clone, Copy, Debug, PartialEq, Eq)]
 pub struct Sent {
-    pub place: Place,
+    pub place: EventPlace,
     pub value: i64,
 }
 
@@ -27,12 +27,12 @@ pub struct Sent {
 /// The gap between the two parts is after the event that was last put between others. The next one mostly belongs there, and
 /// then no other event moves.
 #[derive(Drop)]
-pub struct Line {
+pub struct GapBuffer {
     before: VecDeque<Sent>,
     after: VecDeque<Sent>,
 }
 
-impl Model for Line {
+impl Model for GapBuffer {
     ghost use Rattle.std.specs.Prelude.{List, ◌++◌};
     ghost use Rattle.pt_meaning.specs.declared.line.Sent.{Sent};
     ghost use Rattle.pt_meaning.specs.Line.{IsSortedLine};
@@ -45,12 +45,12 @@ impl Model for Line {
     ghost invariant = { λ line. IsSortedLine place_cmp (line.before.items ++ line.after.items) };
 }
 
-impl Line {
+impl GapBuffer {
     /// No events.
-    pub fn new(alloc: Global) -> Line
+    pub fn new(alloc: Global) -> GapBuffer
         ensures { result ≡ [] }
     {
-        Line {
+        GapBuffer {
             before: VecDeque::new(alloc),
             after: VecDeque::new(alloc),
         }
@@ -58,15 +58,15 @@ impl Line {
 
     /// The place of the first event.
     #[inline(always)]
-    pub fn first(&self) -> Option<Place>
-        ensures { MatchOption result ((q : Place) → in_line place_cmp self.now q ≡ None) (λ place. IsLeastPlace (in_line place_cmp self.now) place) }
+    pub fn first(&self) -> Option<EventPlace>
+        ensures { MatchOption result ((q : EventPlace) → in_line place_cmp self.now q ≡ None) (λ place. IsLeastPlace (in_line place_cmp self.now) place) }
     {
         self.head()
     }
 
     /// The place of the first event.
     #[inline(always)]
-    fn head(&self) -> Option<Place>
+    fn head(&self) -> Option<EventPlace>
         ensures first { MatchOption result (self.now ≡ []) (λ place. (sent : Sent) × (rest : List Sent) × (self.now ≡ sent ∷ rest) × (place ≡ sent.place)) }
         ensures rising { IsSortedLine place_cmp self.now }
     {
@@ -78,7 +78,7 @@ impl Line {
     }
 
     /// Adds an event, unless one waits at its place. Returns false, and adds nothing, if it belongs too far from the gap.
-    pub fn enter(&mut self, place: Place, value: i64) -> Result<bool, Memory>
+    pub fn enter(&mut self, place: EventPlace, value: i64) -> Result<bool, Memory>
         ensures { IfOk result (λ entered. MatchBool entered (Enters place value (in_line place_cmp self.old) (in_line place_cmp self.new)) (self.new ≡ self.old)) }
     {
         if self.is_past(place) {
@@ -93,7 +93,7 @@ impl Line {
     }
 
     /// Whether there are events after the gap and a place is after all of them, as that of a new one often is.
-    fn is_past(&self, place: Place) -> bool
+    fn is_past(&self, place: EventPlace) -> bool
         ensures { IsTrue result → AreBefore place_cmp place self.now }
     {
         !self.after.is_empty() && ends_before(&self.after, place)
@@ -125,7 +125,7 @@ impl Line {
     }
 }
 
-impl Front for Line {
+impl TakeFirst for GapBuffer {
     ghost held = { λ line. in_line place_cmp line };
 
     ghost count = { λ line. length line };

@@ -3,9 +3,10 @@
 ghost use Rattle.std.specs.Prelude.{◌≡◌, [], OnOk, IsErrOf, length};
 ghost use Rattle.pt_types.specs.Lawful.{IsLawful};
 ghost use Rattle.pt_semantics.specs.Lists.{Each};
-ghost use Rattle.pt_semantics.specs.Meaning.{IsLonger, rows_until};
+ghost use Rattle.pt_semantics.specs.Meaning.{IsLonger};
 ghost use Rattle.pt_meaning.specs.Waiting.{rank_in};
-ghost use Rattle.pt_sensors.specs.Listed.{rows_for, IsOfActors};
+ghost use Rattle.pt_sensors.specs.Listed.{IsOfActors};
+ghost use Rattle.pt_meaning.specs.Opening.{rows_of_run};
 ghost use Rattle.pt_meaning.specs.Running.{IsRunnable, Handed};
 ghost use Rattle.pt_causality.specs.Wiring.{IsWiring};
 
@@ -56,7 +57,10 @@ impl From<Memory> for MeaningFault {
 ///
 /// `ranks` has the rank of each actor of the graph. Rows past the horizon are left out. Fails with `Long` if there are more
 /// than `most` firings, and with `Memory` if memory runs out, here or in the receiver.
-pub fn fire_all<R: Receiver>(
+///
+/// A sensor 0, a scale 1 by 2/1, a delay 2 of 100 us and an actuator 3, wired in a row, with one row, 7 at time 50: actors 0, 1 and
+/// 2 fire at 50.0, and actor 3 fires at 150.0 with 14 at its input.
+pub fn reference<R: Receiver>(
     alloc: Global,
     graph: &Graph,
     ranks: &[u32],
@@ -67,8 +71,8 @@ pub fn fire_all<R: Receiver>(
     requires lawful { IsLawful graph.now }
     requires sensors { Each (IsOfActors (length graph.now.actors)) sensors.now }
     requires nothing { R.took receiver.old receiver.old [] }
-    ensures meaning { OnOk result (Handed graph.now (rank_in ranks.now) (λ a. rows_until graph.now.until (rows_for sensors.now a)) most (R.took receiver.old receiver.new)) }
-    ensures long { IsErrOf result MeaningFault.Long → IsLonger graph.now (rank_in ranks.now) (λ a. rows_until graph.now.until (rows_for sensors.now a)) most }
+    ensures meaning { OnOk result (Handed graph.now (rank_in ranks.now) (rows_of_run graph.now sensors.now) most (R.took receiver.old receiver.new)) }
+    ensures long { IsErrOf result MeaningFault.Long → IsLonger graph.now (rank_in ranks.now) (rows_of_run graph.now sensors.now) most }
 {
     let edges = all_edges(alloc, graph)?;
     let outgoing = outgoing(alloc, graph, edges.as_slice())?;
@@ -98,8 +102,8 @@ fn run<R: Receiver>(
     requires wiring { IsWiring graph.now outgoing.now }
     requires len { length outgoing.now ≡ length graph.now.actors }
     requires nothing { R.took receiver.old receiver.old [] }
-    ensures meaning { OnOk result (Handed graph.now (rank_in ranks.now) (λ a. rows_until graph.now.until (rows_for sensors.now a)) most (R.took receiver.old receiver.new)) }
-    ensures long { IsErrOf result MeaningFault.Long → IsLonger graph.now (rank_in ranks.now) (λ a. rows_until graph.now.until (rows_for sensors.now a)) most }
+    ensures meaning { OnOk result (Handed graph.now (rank_in ranks.now) (rows_of_run graph.now sensors.now) most (R.took receiver.old receiver.new)) }
+    ensures long { IsErrOf result MeaningFault.Long → IsLonger graph.now (rank_in ranks.now) (rows_of_run graph.now sensors.now) most }
 {
     let mut list = begin(alloc, graph, ranks, sensors)?;
     let mut firing = no_firing();

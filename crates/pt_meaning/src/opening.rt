@@ -3,16 +3,16 @@
 ghost use Rattle.std.specs.Prelude.{◌≡◌, ◌<◌, ◌^◌, ℕ, IfOk, OnOk, None, [], ◌∷◌, length};
 ghost use Rattle.pt_types.specs.declared.graph.Graph.{Graph};
 ghost use Rattle.pt_semantics.specs.Lists.{Each};
-ghost use Rattle.pt_semantics.specs.Meaning.{added, opening, rows_until};
+ghost use Rattle.pt_semantics.specs.Meaning.{added, opening};
 ghost use Rattle.pt_meaning.specs.Waiting.{rank_in};
-ghost use Rattle.pt_meaning.specs.Early.{early_waits, left, AreEarly, IsFiringOrder};
-ghost use Rattle.pt_meaning.specs.Opening.{start_event, start_one, starts_below, rows_of_actor, rows_from_sensors};
-ghost use Rattle.pt_sensors.specs.Listed.{rows_for, IsOfActors};
+ghost use Rattle.pt_meaning.specs.Early.{early_waits, left, AreEarly, IsFiringOrder, StayEarly};
+ghost use Rattle.pt_meaning.specs.Opening.{start_event, start_one, starts_below, rows_from_sensors, rows_of_actor, rows_of_run};
+ghost use Rattle.pt_sensors.specs.Listed.{IsOfActors};
 
-use crate::early::{Early, EarlyList, Moment};
+use crate::early::{Early, EarlyList, EarlyMoment};
 use crate::emission::rank_at;
 use pt_sensors::{Row, SensorRows};
-use pt_tags::Memory;
+use pt_tags::{Memory, Time};
 use pt_types::{Graph, Kind};
 use std::alloc::Global;
 
@@ -21,13 +21,13 @@ fn begin(
     events: &mut Vec<Early>,
     ranks: &[u32],
     actor: u32,
-    time: u64,
+    time: Time,
     value: i64,
 ) -> Result<(), Memory>
     ensures waits { OnOk result (early_waits events.new.items ≡ added (early_waits events.old.items) (start_event actor time value)) }
-    ensures sound { OnOk result ((actors : ℕ) → actor < actors → AreEarly (rank_in ranks.now) actors events.old.items → AreEarly (rank_in ranks.now) actors events.new.items) }
+    ensures sound { OnOk result (StayEarly ranks.now actor events.old.items events.new.items) }
 {
-    let moment = Moment {
+    let moment = EarlyMoment {
         time,
         rank: rank_at(ranks, actor),
         actor,
@@ -40,12 +40,12 @@ fn begin(
 fn start(
     events: &mut Vec<Early>,
     ranks: &[u32],
-    until: u64,
+    until: Time,
     actor: u32,
     kind: &Kind,
 ) -> Result<(), Memory>
     ensures waits { OnOk result ((g : Graph) → g.until ≡ until → early_waits events.new.items ≡ added (early_waits events.old.items) (start_one g actor kind.now)) }
-    ensures sound { OnOk result ((actors : ℕ) → actor < actors → AreEarly (rank_in ranks.now) actors events.old.items → AreEarly (rank_in ranks.now) actors events.new.items) }
+    ensures sound { OnOk result (StayEarly ranks.now actor events.old.items events.new.items) }
 {
     match kind {
         Kind::Every { start, .. } => {
@@ -76,12 +76,12 @@ fn starts(events: &mut Vec<Early>, ranks: &[u32], graph: &Graph) -> Result<(), M
 fn enter(
     events: &mut Vec<Early>,
     ranks: &[u32],
-    until: u64,
+    until: Time,
     actor: u32,
     row: &Row,
 ) -> Result<(), Memory>
     ensures waits { OnOk result (early_waits events.new.items ≡ added (early_waits events.old.items) (rows_of_actor until actor (row.now ∷ []))) }
-    ensures sound { OnOk result ((actors : ℕ) → actor < actors → AreEarly (rank_in ranks.now) actors events.old.items → AreEarly (rank_in ranks.now) actors events.new.items) }
+    ensures sound { OnOk result (StayEarly ranks.now actor events.old.items events.new.items) }
 {
     if row.time <= until {
         begin(events, ranks, actor, row.time, row.value)
@@ -94,12 +94,12 @@ fn enter(
 fn enter_rows(
     events: &mut Vec<Early>,
     ranks: &[u32],
-    until: u64,
+    until: Time,
     actor: u32,
     rows: &[Row],
 ) -> Result<(), Memory>
     ensures waits { OnOk result (early_waits events.new.items ≡ added (early_waits events.old.items) (rows_of_actor until actor rows.now)) }
-    ensures sound { OnOk result ((actors : ℕ) → actor < actors → AreEarly (rank_in ranks.now) actors events.old.items → AreEarly (rank_in ranks.now) actors events.new.items) }
+    ensures sound { OnOk result (StayEarly ranks.now actor events.old.items events.new.items) }
 {
     for row in rows {
         enter(events, ranks, until, actor, row)?;
@@ -111,7 +111,7 @@ fn enter_rows(
 fn enter_sensors(
     events: &mut Vec<Early>,
     ranks: &[u32],
-    until: u64,
+    until: Time,
     sensors: &[SensorRows],
 ) -> Result<(), Memory>
     ensures waits { OnOk result (early_waits events.new.items ≡ added (early_waits events.old.items) (rows_from_sensors until sensors.now)) }
@@ -132,7 +132,7 @@ pub fn opening(
 ) -> Result<EarlyList, Memory>
     requires actors { length graph.now.actors < 2 ^ 32 }
     requires sensors { Each (IsOfActors (length graph.now.actors)) sensors.now }
-    ensures waits { IfOk result (λ list. early_waits (left list) ≡ opening graph.now (λ a. rows_until graph.now.until (rows_for sensors.now a))) }
+    ensures waits { IfOk result (λ list. early_waits (left list) ≡ opening graph.now (rows_of_run graph.now sensors.now)) }
     ensures sound { IfOk result (λ list. IsFiringOrder (rank_in ranks.now) (length graph.now.actors) (left list)) }
 {
     let mut events = Vec::new(alloc);

@@ -1,19 +1,16 @@
 //! The events sent since the start for later tags, in the order in which they fire.
 
-ghost use Rattle.std.specs.Prelude.{◌≡◌, ℕ, IfSome, IfNone, OnOk, None, true, length};
+ghost use Rattle.std.specs.Prelude.{◌≡◌, ℕ, IfSome, IfNone, OnOk, None, length};
 ghost use Rattle.pt_tags.specs.declared.tag.Tag.{Tag};
-ghost use Rattle.pt_types.specs.Ports.{at_port, eight};
-ghost use Rattle.pt_semantics.specs.Lists.{or_else};
-ghost use Rattle.pt_semantics.specs.Meaning.{IsFirst, waiting, without};
-ghost use Rattle.pt_semantics.specs.Firing.{any_present};
-ghost use Rattle.pt_meaning.specs.Waiting.{waits_in, IsPlaceIn, EventsArePlaced};
+ghost use Rattle.pt_meaning.specs.Placed.{FiresFirst, HasInput, IsPlaced, NoneWaits, PutsFirstInputs, StayPlaced, TakesFirst};
+ghost use Rattle.pt_meaning.specs.Waiting.{waits_in, EventsArePlaced};
 ghost use Rattle.pt_meaning.specs.Front.{Enters};
 ghost use Rattle.pt_meaning.specs.Held.{pending_value};
 
 use crate::front::take_all;
 use crate::later::Later;
-use crate::line::Line;
-use crate::place::{Place, sooner};
+use crate::line::GapBuffer;
+use crate::place::{EventPlace, sooner};
 use pt_tags::{Memory, Tag};
 use pt_types::Ports;
 use std::alloc::Global;
@@ -22,7 +19,7 @@ use std::alloc::Global;
 /// that do not come before the map's first. If both have an event at a place, that of the line counts.
 #[derive(Drop)]
 pub struct Pending {
-    pub line: Line,
+    pub line: GapBuffer,
     pub later: Later,
 }
 
@@ -33,18 +30,18 @@ impl Pending {
         ensures sound { (rank : ℕ → ℕ) (actors steps : ℕ) → EventsArePlaced rank actors steps (pending_value result) }
     {
         Pending {
-            line: Line::new(alloc),
+            line: GapBuffer::new(alloc),
             later: Later::new(alloc),
         }
     }
 
     /// The place of the first event.
     #[inline(always)]
-    pub fn first(&self) -> Option<Place>
-        ensures first { IfSome result (λ next. (rank : ℕ → ℕ) (actors steps : ℕ) → EventsArePlaced rank actors steps (pending_value self.now) → IsFirst rank (waits_in rank (pending_value self.now)) next.actor next.tag) }
-        ensures present { IfSome result (λ next. (rank : ℕ → ℕ) (actors steps : ℕ) → EventsArePlaced rank actors steps (pending_value self.now) → any_present (waiting (waits_in rank (pending_value self.now)) next.actor next.tag) ≡ true) }
-        ensures within { IfSome result (λ next. (rank : ℕ → ℕ) (actors steps : ℕ) → EventsArePlaced rank actors steps (pending_value self.now) → IsPlaceIn rank actors steps next) }
-        ensures empty { IfNone result ((rank : ℕ → ℕ) (a p : ℕ) (t : Tag) → waits_in rank (pending_value self.now) a p t ≡ None) }
+    pub fn first(&self) -> Option<EventPlace>
+        ensures first { IfSome result (FiresFirst (pending_value self.now)) }
+        ensures present { IfSome result (HasInput (pending_value self.now)) }
+        ensures within { IfSome result (IsPlaced (pending_value self.now)) }
+        ensures empty { IfNone result (NoneWaits (pending_value self.now)) }
     {
         let Some(near) = self.line.first() else {
             return self.later.first();
@@ -57,7 +54,7 @@ impl Pending {
 
     /// Puts an event where it belongs, unless one waits at its place. Not inlined, since most events are of the tag that runs.
     #[inline(never)]
-    pub fn enter(&mut self, place: Place, value: i64) -> Result<(), Memory>
+    pub fn enter(&mut self, place: EventPlace, value: i64) -> Result<(), Memory>
         ensures { OnOk result (Enters place value (pending_value self.old) (pending_value self.new)) }
     {
         if self.later.is_after(place) && self.line.enter(place, value)? {
@@ -69,9 +66,9 @@ impl Pending {
     /// Takes an actor's events of a tag, which must be the first, and writes their values at its inputs.
     pub fn take(&mut self, tag: Tag, actor: u32, inputs: &mut Ports)
         requires { length inputs.old ≡ 8 }
-        ensures inputs { (rank : ℕ → ℕ) (actors steps : ℕ) → EventsArePlaced rank actors steps (pending_value self.old) → IsFirst rank (waits_in rank (pending_value self.old)) actor tag → inputs.new ≡ eight (λ p. or_else (waits_in rank (pending_value self.old) actor p tag) (at_port inputs.old p)) }
-        ensures waits { (rank : ℕ → ℕ) (actors steps : ℕ) → EventsArePlaced rank actors steps (pending_value self.old) → IsFirst rank (waits_in rank (pending_value self.old)) actor tag → waits_in rank (pending_value self.new) ≡ without (waits_in rank (pending_value self.old)) actor tag }
-        ensures sound { (rank : ℕ → ℕ) (actors steps : ℕ) → EventsArePlaced rank actors steps (pending_value self.old) → EventsArePlaced rank actors steps (pending_value self.new) }
+        ensures inputs { PutsFirstInputs (pending_value self.old) actor tag inputs.old inputs.new }
+        ensures waits { TakesFirst actor tag (pending_value self.old) (pending_value self.new) }
+        ensures sound { StayPlaced (pending_value self.old) (pending_value self.new) }
     {
         take_all(&mut self.later, tag, actor, inputs);
         take_all(&mut self.line, tag, actor, inputs);

@@ -8,7 +8,7 @@ use pt_tags::Tag;
 
 /// Where an event waits. Places are ordered as the events fire: by tag, rank, actor and port.
 #[derive(Clone, Copy, Debug, PartialEq, Eq, PartialOrd, Ord)]
-pub struct Place {
+pub struct EventPlace {
     pub tag: Tag,
     pub rank: u32,
     pub actor: u32,
@@ -16,14 +16,14 @@ pub struct Place {
 }
 
 /// Whether a place is of this tag and actor.
-pub(crate) fn is_of(tag: Tag, actor: u32, place: &Place) -> bool
+pub(crate) fn is_of(tag: Tag, actor: u32, place: &EventPlace) -> bool
     ensures { result ≡ is_place_of tag actor place.now }
 {
     place.actor == actor && tag == place.tag
 }
 
 /// The one of two places that comes first.
-pub(crate) fn sooner(x: Place, y: Place) -> Place
+pub(crate) fn sooner(x: EventPlace, y: EventPlace) -> EventPlace
     ensures one { (result ≡ x) ⊎ (result ≡ y) }
     ensures first { IsUpTo result x × IsUpTo result y }
 {

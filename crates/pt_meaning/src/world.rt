@@ -1,33 +1,30 @@
 //! The events that wait: those known at the start, and those sent since.
 
-ghost use Rattle.std.specs.Prelude.{◌≡◌, ℕ, IfSome, IfNone, None, true};
+ghost use Rattle.std.specs.Prelude.{◌≡◌, IfSome, IfNone, None};
 ghost use Rattle.pt_tags.specs.declared.tag.Tag.{Tag};
-ghost use Rattle.pt_semantics.specs.Firing.{any_present};
-ghost use Rattle.pt_semantics.specs.Meaning.{IsFirst, waiting, without};
-ghost use Rattle.pt_meaning.specs.Waiting.{IsPlaceIn};
-ghost use Rattle.pt_meaning.specs.Both.{all_waits, with_first, AreSound};
+ghost use Rattle.pt_meaning.specs.Both.{FiresFirstOfAll, GivesAllInputs, HasAnyInput, IsSoundPlace, NoneWaitsAtAll, StaySound, TakesFirstOfAll, with_first};
 
 use crate::early::EarlyList;
 use crate::late::Late;
-use crate::place::{Place, sooner};
+use crate::place::{EventPlace, sooner};
 use pt_tags::Tag;
 use pt_types::Ports;
 
 /// The events that wait: `early` were known at the start, `late` were sent since. If both have one at a place, the early
 /// one counts.
 #[derive(Drop)]
-pub struct Waiting {
+pub struct WaitingEvents {
     pub early: EarlyList,
     pub late: Late,
 }
 
-impl Waiting {
+impl WaitingEvents {
     /// The place of the first event.
-    pub fn first(&self) -> Option<Place>
-        ensures first { IfSome result (λ next. (rank : ℕ → ℕ) (actors steps : ℕ) → AreSound rank actors steps self.now → IsFirst rank (all_waits rank self.now) next.actor next.tag) }
-        ensures present { IfSome result (λ next. (rank : ℕ → ℕ) (actors steps : ℕ) → AreSound rank actors steps self.now → any_present (waiting (all_waits rank self.now) next.actor next.tag) ≡ true) }
-        ensures within { IfSome result (λ next. (rank : ℕ → ℕ) (actors steps : ℕ) → AreSound rank actors steps self.now → IsPlaceIn rank actors steps next) }
-        ensures empty { IfNone result ((rank : ℕ → ℕ) (a p : ℕ) (t : Tag) → all_waits rank self.now a p t ≡ None) }
+    pub fn first(&self) -> Option<EventPlace>
+        ensures first { IfSome result (FiresFirstOfAll self.now) }
+        ensures present { IfSome result (HasAnyInput self.now) }
+        ensures within { IfSome result (IsSoundPlace self.now) }
+        ensures empty { IfNone result (NoneWaitsAtAll self.now) }
     {
         let Some(early) = self.early.first() else {
             return self.late.first();
@@ -40,9 +37,9 @@ impl Waiting {
 
     /// Takes an actor's events of a tag, which must be the first, and writes their values at its inputs.
     pub fn take(&mut self, tag: Tag, actor: u32, inputs: &mut Ports)
-        ensures inputs { (rank : ℕ → ℕ) (actors steps : ℕ) → AreSound rank actors steps self.old → IsFirst rank (all_waits rank self.old) actor tag → inputs.new ≡ waiting (all_waits rank self.old) actor tag }
-        ensures waits { (rank : ℕ → ℕ) (actors steps : ℕ) → AreSound rank actors steps self.old → IsFirst rank (all_waits rank self.old) actor tag → all_waits rank self.new ≡ without (all_waits rank self.old) actor tag }
-        ensures sound { (rank : ℕ → ℕ) (actors steps : ℕ) → AreSound rank actors steps self.old → AreSound rank actors steps self.new }
+        ensures inputs { GivesAllInputs self.old actor tag inputs.new }
+        ensures waits { TakesFirstOfAll actor tag self.old self.new }
+        ensures sound { StaySound self.old self.new }
     {
         let early = self.early.take(tag, actor);
         self.late.take(tag, actor, inputs);

@@ -34,3 +34,11 @@ level_zero levels from end n block limit zero after before =
 -- and those before the lowest bit that is left
 pub level_at : (levels : Levels) (from end k n : ℕ) → end ≤ 64 * (from / 64) + 64 → end ≤ levels.limit → ((i : ℕ) → i < k → bit_at (levels.bits / 2 ^ (from % 64) / 2) i ≡ 0) → from ≤ n → n < end → n < from + k → IsLevel levels n
 level_at levels from end k n block limit zeros after before less = level_by levels from end n block limit after before (zeros (n - from) (omega (arith, after, less)))
+
+-- but not the one at a bit that is left
+pub unknown_at : (levels : Levels) (from end k n : ℕ) → end ≤ 64 * (from / 64) + 64 → bit_at (levels.bits / 2 ^ (from % 64) / 2) k ≡ 1 → n ≡ from + k → n < end → IsLevel levels n → ⊥
+unknown_at levels from end k n block one is before level =
+    let place : from % 64 + k ≡ n % 64 = omega (arith, block, is, before) in
+    let bit : levels.bits / 2 ^ (from % 64 + k) / 2 % 2 ≡ 1 = sym (shifted levels.bits (from % 64) k) ∙ one in
+    let zero : levels.bits / 2 ^ (from % 64 + k) / 2 % 2 ≡ 0 = ap (λ p. levels.bits / 2 ^ p / 2 % 2) place ∙ level.bit in
+    absurd (omega (arith, bit, zero))

@@ -17,6 +17,8 @@ use Rattle.pt_semantics.specs.Lists.{IsIn}
 use Rattle.pt_semantics.specs.Missed.{IsMissed}
 use Rattle.pt_semantics.specs.Turn.{Turn}
 use Rattle.pt_history.specs.declared.miss.Miss.{Miss}
+use Rattle.pt_history.specs.declared.claims.Mark.{Mark}
+use Rattle.pt_history.specs.Tasks.{mark_of}
 
 -- the miss of an actor at a tag, if the reading is past the tag's time plus the slack
 abbrev pub miss_past : ℕ → ℕ → Tag → ℕ → Option Miss
@@ -48,6 +50,14 @@ missed_at g turn = filter_map (miss_of_result g turn.last) turn.posted ++ filter
 -- this is the last reading of a turn
 abbrev pub IsLastReading : Option Turn → ℕ → Type 0
 IsLastReading turn reading = option_map (λ (t : Turn). t.last) turn ≡ Some reading
+
+-- the misses of this turn, which is there, were appended
+abbrev pub AppendsMissed : Graph → Option Turn → List Miss → List Miss → Type 0
+AppendsMissed g turn old new = option_map (λ (t : Turn). old ++ missed_at g t) turn ≡ Some new
+
+-- this is the miss of a result of the turn whose task has this mark
+abbrev pub IsMissOfMark : Graph → Option Turn → Mark → Option Miss → Type 0
+IsMissOfMark g turn mark miss = (done : Done) (reading : ℕ) → mark_of done.task ≡ mark → IsLastReading turn reading → miss ≡ miss_of_result g reading done
 
 -- the misses of the first of these results, at the last reading of their turn, were appended
 abbrev pub AppendsMisses : Graph → Option Turn → List Done → List Miss → List Miss → Type 0

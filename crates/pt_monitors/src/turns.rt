@@ -1,17 +1,15 @@
 //! The misses of a history.
 
-ghost use Rattle.std.specs.Prelude.{[], ◌≡◌, ℕ, ◌+◌, ◌*◌, ◌/◌, ◌<◌, ◌≤◌, ◌++◌, IfSome, None, OnOk, Some, false, filter_map, flat_map, length, option_map, option_to_list, slice_get, take, true};
-ghost use Rattle.pt_types.specs.declared.firing.Done.{Done};
+ghost use Rattle.std.specs.Prelude.{◌≡◌, ℕ, ◌+◌, ◌*◌, ◌/◌, ◌<◌, ◌≤◌, ◌++◌, IfSome, None, OnOk, Some, false, filter_map, length, option_to_list, slice_get, true};
 ghost use Rattle.pt_types.specs.declared.graph.Graph.{Graph};
 ghost use Rattle.pt_types.specs.Lookups.{slack_of};
 ghost use Rattle.pt_history.specs.Levels.{IsLevel};
-ghost use Rattle.pt_history.specs.Tasks.{mark_of};
 ghost use Rattle.pt_history.specs.Turns.{all_dated, posted_in};
-ghost use Rattle.pt_monitors.specs.InTime.{AreInTime, EndBy, HasNoMiss};
-ghost use Rattle.pt_monitors.specs.Misses.{AppendsMisses, AppendsSent, AppendsUpTo, IsLastReading, ListsMissed, miss_of_message, miss_of_result, miss_past, missed_at, missed_of};
+ghost use Rattle.pt_monitors.specs.InTime.{AreInTime, EndBy, HasNoMiss, IsPostedBy};
+ghost use Rattle.pt_monitors.specs.Misses.{AppendsMissed, AppendsMisses, AppendsSent, AppendsUpTo, IsMissOfMark, ListsMissed, miss_of_message, miss_past, missed_of};
 
 use pt_history::{History, Mark, Miss, TurnLevels};
-use pt_tags::{Memory, Message, Tag};
+use pt_tags::{Memory, Message, Reading, Tag};
 use pt_types::{Graph, Kind, OnLink};
 
 /// Appends the misses of a platform's history: turn by turn, and in a turn the results before the messages.
@@ -95,7 +93,7 @@ fn is_past(
 ) -> bool
     requires number { number < length (all_dated history.now.turns) }
     requires latest { IfSome latest (λ r. EndBy r history.now.turns) }
-    ensures { result ≡ false → option_map (λ dated. miss_past dated.reading mark.actor mark.tag slack) (slice_get (all_dated history.now.turns) number) ≡ Some None }
+    ensures { result ≡ false → IsPostedBy history.now.turns number mark.actor mark.tag slack }
 {
     if let Some(latest) = latest {
         if miss_past(latest, mark.actor, mark.tag, slack).is_none() {
@@ -149,8 +147,8 @@ fn missed_in_block(
     Ok(())
 }
 
-/// The next turn, from turn `from` up to turn `end` in a block of 64, after which messages may have been sent; `end` if none were
-/// sent after any of them. Of the last turn of a block nothing is known.
+/// The next turn, from turn `from` up to turn `end` in a block of 64, of which it is not known that no messages were sent after it;
+/// `end` if it is known of all. Of the last turn of a block nothing is known.
 #[inline(always)]
 fn next_unknown(levels: &TurnLevels, from: usize, end: usize) -> usize
     requires within { from ≤ end }
@@ -158,6 +156,7 @@ fn next_unknown(levels: &TurnLevels, from: usize, end: usize) -> usize
     ensures rises { from ≤ result }
     ensures within { result ≤ end }
     ensures level { (n : ℕ) → from ≤ n → n < result → IsLevel levels.now.sent n }
+    ensures unknown { result < end → IsLevel levels.now.sent result → ⊥ }
 {
     let known = levels.sent.limit.min(end);
     if known <= from {
@@ -178,7 +177,7 @@ fn missed_at(
     misses: &mut Vec<Miss>,
 ) -> Result<(), Memory>
     requires { number < length history.now.turns }
-    ensures { OnOk result (option_map (λ turn. misses.old.items ++ missed_at graph.now turn) (slice_get history.now.turns number) ≡ Some misses.new.items) }
+    ensures { OnOk result (AppendsMissed graph.now (slice_get history.now.turns number) misses.old.items misses.new.items) }
 {
     missed_results(graph, history, number, history.posted(number), misses)?;
     missed_after(graph, history, number, misses)
@@ -225,7 +224,7 @@ fn missed_results(
 #[inline(never)]
 fn missed_messages(
     graph: &Graph,
-    reading: u64,
+    reading: Reading,
     sent: &[OnLink],
     misses: &mut Vec<Miss>,
 ) -> Result<(), Memory>
@@ -252,7 +251,7 @@ fn push(misses: &mut Vec<Miss>, miss: Option<Miss>) -> Result<(), Memory>
 /// limit.
 fn miss_of_result(graph: &Graph, history: &History, turn: usize, mark: Mark) -> Option<Miss>
     requires { turn < length history.now.turns }
-    ensures { (done : Done) (reading : ℕ) → mark_of done.task ≡ mark → IsLastReading (slice_get history.now.turns turn) reading → result ≡ miss_of_result graph.now reading done }
+    ensures { IsMissOfMark graph.now (slice_get history.now.turns turn) mark result }
 {
     let actor = graph.actors.as_slice().get(mark.actor as usize)?;
     match &actor.kind {
@@ -262,7 +261,7 @@ fn miss_of_result(graph: &Graph, history: &History, turn: usize, mark: Mark) -> 
 }
 
 /// The miss of a message: an event sent past its sender's limit.
-fn miss_of_message(graph: &Graph, reading: u64, sent: &OnLink) -> Option<Miss>
+fn miss_of_message(graph: &Graph, reading: Reading, sent: &OnLink) -> Option<Miss>
     ensures { result ≡ miss_of_message graph.now reading sent.now }
 {
     let link = graph.links.as_slice().get(sent.link as usize)?;
@@ -275,7 +274,7 @@ fn miss_of_message(graph: &Graph, reading: u64, sent: &OnLink) -> Option<Miss>
 }
 
 /// The miss of an actor at a tag, if the reading is past the tag's time plus the slack.
-fn miss_past(reading: u64, actor: u32, tag: Tag, slack: u64) -> Option<Miss>
+fn miss_past(reading: Reading, actor: u32, tag: Tag, slack: u64) -> Option<Miss>
     ensures { result ≡ miss_past reading actor tag slack }
 {
     let limit = tag.time.checked_add(slack)?;

@@ -2,7 +2,7 @@
 use Rattle.std.proofs.Common.{◌≡◌, length, ℕ, ℤ, pos, ◌+◌, ◌<◌, ◌≤◌, ◌≤ℤ◌, ◌+ℤ◌, ◌-ℤ◌, List, Option, Some, None, refl, sym, ap, subst, ◌∙◌, arith}
 use Rattle.std.proofs.lemmas.Int.{ints}
 use Rattle.pt_types.specs.declared.graph.Graph.{Graph}
-use Rattle.pt_types.specs.declared.graph.Unit.{Unit as Part}
+use Rattle.pt_types.specs.declared.graph.Unit.{Unit}
 use Rattle.pt_types.specs.declared.kind.Kind.{Kind}
 use Rattle.pt_types.specs.declared.kind.Kind.TheVariants.{Receive, Send}
 use Rattle.pt_types.specs.Lawful.{IsLawful}
@@ -28,7 +28,7 @@ feasible_by g a slack s b path None has sends kind feeds = absurd (has s b path 
 feasible_by g a slack s b path (Some o) has sends kind feeds = in_time_along b (sum_along path).time slack o (has.greatest s b path feeds) (sends slack o kind has)
 
 -- where each sender can send in time, whatever reaches it
-pub feasible : (g : Graph) (offset : Part → Option ℤ) → ((u : Part) → HasOffset g u (offset u)) → ((a : ℕ) → SendsInTime g a) → IsFeasible g
+pub feasible : (g : Graph) (offset : Unit → Option ℤ) → ((u : Unit) → HasOffset g u (offset u)) → ((a : ℕ) → SendsInTime g a) → IsFeasible g
 feasible g offset has sends a slack s b path kind feeds = feasible_by g a slack s b path (offset (at_output g a 0)) (has (at_output g a 0)) (sends a) kind feeds
 
 less_in_time : (x y : ℤ) (slack : ℕ) → x ≤ℤ y → (y +ℤ pos 1) ≤ℤ pos slack → (x +ℤ pos 1) ≤ℤ pos slack
@@ -38,7 +38,7 @@ less_in_time x y slack h k = omega (arith, ints)
 pub sends_in_time : (g : Graph) (a : ℕ) (k : Kind) (found : Option ℤ) → k ≡ kind_of g a → HasActorOffset g a found → CanSendInTime k found → SendsInTime g a
 sends_in_time g a k None same has timely slack o kind is = absurd (has 0 is.some.0 is.some.1 is.some.2 (subst (Feeds g is.some.0 is.some.1 is.some.2) (sym (first_unit g a)) is.some.3))
 sends_in_time g a k (Some y) same has timely slack o kind is =
-    less_in_time o y slack (has.greatest 0 o (subst (λ (u : Part). HasOffset g u (Some o)) (sym (first_unit g a)) is)) (timely slack y (same ∙ kind) refl)
+    less_in_time o y slack (has.greatest 0 o (subst (λ (u : Unit). HasOffset g u (Some o)) (sym (first_unit g a)) is)) (timely slack y (same ∙ kind) refl)
 
 -- the offset of a sender is that of its one unit
 one_unit : (g : Graph) (a slack k : ℕ) (o : ℤ) → IsLawful g → kind_of g a ≡ Send slack → HasOffset g (unit_at a k) (Some o) → HasOffset g (at_output g a 0) (Some o)
@@ -46,7 +46,7 @@ one_unit g a slack k o lawful kind is =
     let below : k < groups (kind_of g a) = (offset_is_unit g (unit_at a k) o lawful is).1 in
     let one : groups (kind_of g a) ≡ 1 = ap groups kind in
     let first : k ≡ 0 = omega arith in
-    subst (λ (u : Part). HasOffset g u (Some o)) (ap (unit_at a) first ∙ first_unit g a) is
+    subst (λ (u : Unit). HasOffset g u (Some o)) (ap (unit_at a) first ∙ first_unit g a) is
 
 -- an actor that was found late is infeasible
 pub names : (g : Graph) (a : ℕ) (k : Kind) (found : Option ℤ) (fault : OffsetFault) → IsLawful g → k ≡ kind_of g a → HasActorOffset g a found → SendsLate a k found fault → Names fault g a

@@ -3,7 +3,7 @@ use Rattle.std.proofs.Common.{ℕ, ℤ, ◌<◌, ◌≤◌, ◌≤ℤ◌, List, 
 use Rattle.std.proofs.lemmas.Bool.{cases_lt}
 use Rattle.std.proofs.lemmas.List.{get_or_past}
 use Rattle.pt_types.specs.declared.graph.Graph.{Graph}
-use Rattle.pt_types.specs.declared.graph.Unit.{Unit as Part}
+use Rattle.pt_types.specs.declared.graph.Unit.{Unit}
 use Rattle.pt_semantics.specs.Offsets.{HasOffset}
 use Rattle.pt_causality.specs.Units.{IsUnit}
 use Rattle.pt_offsets.specs.declared.table.Timing.{Timing}
@@ -12,7 +12,7 @@ use Rattle.pt_offsets.specs.Words.{AreAtMostWords, IsAtMostOffset, IsAtMostWord,
 
 module _ (g : Graph) (timings : List Timing) (timed : AreTimings g timings) where
   -- a unit of the graph has an entry
-  there : (u : Part) → IsUnit g u → u.actor < length timings
+  there : (u : Unit) → IsUnit g u → u.actor < length timings
   there u unit =
       ⊎_elim
       (λ (less : u.actor < length timings). less)
@@ -21,7 +21,7 @@ module _ (g : Graph) (timings : List Timing) (timed : AreTimings g timings) wher
       absurd (omega (arith, none)))
       (cases_lt u.actor (length timings))
 
-  offset_there : (u : Part) (o : ℤ) (offset : Option ℤ) → IsAtMostOffset o offset → HasOffset g u offset → (x : ℤ) × HasOffset g u (Some x) × (o ≤ℤ x)
+  offset_there : (u : Unit) (o : ℤ) (offset : Option ℤ) → IsAtMostOffset o offset → HasOffset g u offset → (x : ℤ) × HasOffset g u (Some x) × (o ≤ℤ x)
   offset_there u o None h has = absurd h
   offset_there u o (Some x) h has = (x, has, h)
 

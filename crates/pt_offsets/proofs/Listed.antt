@@ -4,7 +4,7 @@ use Rattle.std.specs.Option.{is_some}
 use Rattle.std.proofs.lemmas.Bool.{false≢true}
 use Rattle.std.proofs.lemmas.List.{get_or_append_left, get_or_push, length_push}
 use Rattle.pt_tags.specs.declared.tag.Delay.{Delay}
-use Rattle.pt_types.specs.declared.graph.Unit.{Unit as Part}
+use Rattle.pt_types.specs.declared.graph.Unit.{Unit}
 use Rattle.pt_semantics.proofs.Lookups.{none_some}
 use Rattle.pt_offsets.specs.Bounded.{bound_at, offset_by, offset_from}
 use Rattle.pt_offsets.specs.Greatest.{HasGreatest}
@@ -80,7 +80,7 @@ no_bound : (bound : Option ℕ) (delay : Option Delay) → bound ≡ None → of
 no_bound None delay is = refl
 no_bound (Some b) delay is = absurd (none_some b (sym is))
 
-pub greatest_of_all : (bounds : List (Option ℕ)) (sources : List ℕ) (least : Part → Part → Option Delay) (u : Part) (o : Option ℤ) → AreSources bounds sources
+pub greatest_of_all : (bounds : List (Option ℕ)) (sources : List ℕ) (least : Unit → Unit → Option Delay) (u : Unit) (o : Option ℤ) → AreSources bounds sources
     → HasGreatest (length sources) (λ i. offset_from bounds least u (get_or sources i 0)) o → HasGreatest (length bounds) (offset_from bounds least u) o
 greatest_of_all bounds sources least u o so has =
     over_all bounds sources (offset_from bounds least u) so (λ a none. no_bound (bound_at bounds a) (least (unit_at a 0) u) none) o has

@@ -4,7 +4,7 @@ use Rattle.std.proofs.lemmas.Int.{ints}
 use Rattle.pt_tags.specs.declared.tag.Delay.{Delay}
 use Rattle.pt_tags.specs.Tags.{AtMost}
 use Rattle.pt_types.specs.declared.graph.Graph.{Graph}
-use Rattle.pt_types.specs.declared.graph.Unit.{Unit as Part}
+use Rattle.pt_types.specs.declared.graph.Unit.{Unit}
 use Rattle.pt_types.specs.declared.kind.Kind.{Kind}
 use Rattle.pt_types.specs.declared.kind.Kind.TheVariants.{Lanes}
 use Rattle.pt_types.specs.Lawful.{IsLawful}
@@ -38,23 +38,23 @@ first_is_unit : (g : Graph) (a : ℕ) → IsLawful g → a < length g.actors →
 first_is_unit g a lawful less = (less, some_group (kind_of g a) (any_kind g a lawful))
 
 -- a path leads from a unit to a unit
-to_unit : (g : Graph) (x : Part) (path : List Edge) (a : Part) → IsWired g → Goes g x path a → IsUnit g x → IsUnit g a
+to_unit : (g : Graph) (x : Unit) (path : List Edge) (a : Unit) → IsWired g → Goes g x path a → IsUnit g x → IsUnit g a
 to_unit g x [] a wired goes unit = subst (IsUnit g) goes unit
 to_unit g x (e ∷ path) a wired goes unit =
     let in_edges = IsIn-append_left e (wires g) (links g) goes.0 in
     to_unit g (target g e) path a wired goes.2 ((wired.ends e in_edges).1, wired.in_unit e in_edges)
 
 -- what a source leads to is a unit
-pub fed_unit : (g : Graph) (s b : ℕ) (path : List Edge) (u : Part) → IsLawful g → Feeds g s b path u → IsUnit g u
+pub fed_unit : (g : Graph) (s b : ℕ) (path : List Edge) (u : Unit) → IsLawful g → Feeds g s b path u → IsUnit g u
 fed_unit g s b path u lawful feeds =
     to_unit g (at_output g s 0) path u (wired g lawful) feeds.goes
     (subst (IsUnit g) (first_unit g s) (first_is_unit g s lawful (bound_below g s b lawful feeds.bound)))
 
 -- what is no unit has no offset
-pub no_offset : (g : Graph) (u : Part) → IsLawful g → (IsUnit g u → ⊥) → HasOffset g u None
+pub no_offset : (g : Graph) (u : Unit) → IsLawful g → (IsUnit g u → ⊥) → HasOffset g u None
 no_offset g u lawful outside s b path feeds = outside (fed_unit g s b path u lawful feeds)
 
-pub offset_is_unit : (g : Graph) (u : Part) (o : ℤ) → IsLawful g → IsOffset g u o → IsUnit g u
+pub offset_is_unit : (g : Graph) (u : Unit) (o : ℤ) → IsLawful g → IsOffset g u o → IsUnit g u
 offset_is_unit g u o lawful is = fed_unit g is.some.0 is.some.1 is.some.2 u lawful is.some.3
 
 -- a least delay that is there
@@ -63,7 +63,7 @@ pub record Reaches (g : Graph) (path : List Edge) (found : Option Delay) : Type 
   pub there : found ≡ Some delay
   pub no_later : AtMost delay (sum_along path)
 
-reaches : (g : Graph) (x a : Part) (path : List Edge) (found : Option Delay) → HasLeast g x a found → Goes g x path a → Reaches g path found
+reaches : (g : Graph) (x a : Unit) (path : List Edge) (found : Option Delay) → HasLeast g x a found → Goes g x path a → Reaches g path found
 reaches g x a path None has goes = absurd (has path goes)
 reaches g x a path (Some d) has goes = record { delay = d; there = refl; no_later = has.least path goes }
 
@@ -83,7 +83,7 @@ comes (Some b) (Some d) o e = record { number = b; delay = d; bound_is = refl; d
 less_taken : (b t d : ℕ) (o : ℤ) → d ≤ t → (pos b -ℤ pos d) ≤ℤ o → (pos b -ℤ pos t) ≤ℤ o
 less_taken b t d o h k = omega (arith, ints)
 
-module _ (g : Graph) (bounds : List (Option ℕ)) (least : Part → Part → Option Delay) (u : Part) (lawful : IsLawful g) (are : AreBounds g bounds) (all : AreLeast g least) (unit : IsUnit g u) where
+module _ (g : Graph) (bounds : List (Option ℕ)) (least : Unit → Unit → Option Delay) (u : Unit) (lawful : IsLawful g) (are : AreBounds g bounds) (all : AreLeast g least) (unit : IsUnit g u) where
   record Given (s b : ℕ) (path : List Edge) : Type 0 where
     delay : Delay
     below : s < length bounds
@@ -94,7 +94,7 @@ module _ (g : Graph) (bounds : List (Option ℕ)) (least : Part → Part → Opt
   given : (s b : ℕ) (path : List Edge) → Feeds g s b path u → Given s b path
   given s b path feeds =
       let less : s < length g.actors = bound_below g s b lawful feeds.bound in
-      let goes : Goes g (unit_at s 0) path u = subst (λ (x : Part). Goes g x path u) (sym (first_unit g s)) feeds.goes in
+      let goes : Goes g (unit_at s 0) path u = subst (λ (x : Unit). Goes g x path u) (sym (first_unit g s)) feeds.goes in
       let there = reaches g (unit_at s 0) u path (least (unit_at s 0) u) (all (unit_at s 0) u (first_is_unit g s lawful less) unit) goes in
       let len : length bounds ≡ length g.actors = are.len in
       record {
@@ -116,7 +116,7 @@ module _ (g : Graph) (bounds : List (Option ℕ)) (least : Part → Part → Opt
         k,
         one.number,
         is.along.0,
-        record { bound = sym (are.each k) ∙ one.bound_is; goes = subst (λ (x : Part). Goes g x is.along.0 u) (first_unit g k) is.along.1 },
+        record { bound = sym (are.each k) ∙ one.bound_is; goes = subst (λ (x : Unit). Goes g x is.along.0 u) (first_unit g k) is.along.1 },
         ap (λ (d : Delay). pos one.number -ℤ pos d.time) is.along.2 ∙ one.offset_is,
       )
 
@@ -142,7 +142,7 @@ some_small found d small is =
     both.0
 
 -- an offset that is there is small
-pub small_offset : (bounds : List (Option ℕ)) (least : Part → Part → Option Delay) (u : Part) (o : ℤ) → AreModest bounds → AreSmall least → IsGreatest (length bounds) (offset_from bounds least u) o → (neg_ℤ (pos (2 ^ 62)) ≤ℤ o) × (o ≤ℤ pos (2 ^ 62))
+pub small_offset : (bounds : List (Option ℕ)) (least : Unit → Unit → Option Delay) (u : Unit) (o : ℤ) → AreModest bounds → AreSmall least → IsGreatest (length bounds) (offset_from bounds least u) o → (neg_ℤ (pos (2 ^ 62)) ≤ℤ o) × (o ≤ℤ pos (2 ^ 62))
 small_offset bounds least u o modest small has =
     let one = comes (bound_at bounds has.at) (least (unit_at has.at 0) u) o has.there in
     difference_small one.number one.delay.time o (modest has.at one.number one.bound_is) (some_small (least (unit_at has.at 0) u) one.delay (small (unit_at has.at 0) u) one.delay_is) one.offset_is

@@ -4,7 +4,7 @@ use Rattle.std.proofs.lemmas.Bool.{cases_lt}
 use Rattle.std.proofs.lemmas.List.{get_or_append_left, get_or_past, get_or_push}
 use Rattle.pt_tags.specs.declared.tag.Delay.{Delay}
 use Rattle.pt_types.specs.declared.graph.Graph.{Graph}
-use Rattle.pt_types.specs.declared.graph.Unit.{Unit as Part}
+use Rattle.pt_types.specs.declared.graph.Unit.{Unit}
 use Rattle.pt_types.specs.Lawful.{IsLawful}
 use Rattle.pt_types.specs.declared.kind.Kind.{Kind}
 use Rattle.pt_types.specs.declared.kind.Kind.TheVariants.{Send}
@@ -24,16 +24,16 @@ use Rattle.pt_offsets.proofs.Maxima.{last_or_before, le_trans}
 use Rattle.pt_offsets.proofs.Sources.{has_offset, no_offset, small_offset}
 
 -- the offsets of an actor's units, by group
-pub record AreUnitOffsets (g : Graph) (bounds : List (Option ℕ)) (least : Part → Part → Option Delay) (a : ℕ) (offsets : List (Option ℤ)) : Type 0 where
+pub record AreUnitOffsets (g : Graph) (bounds : List (Option ℕ)) (least : Unit → Unit → Option Delay) (a : ℕ) (offsets : List (Option ℤ)) : Type 0 where
   pub len : length offsets ≡ groups (kind_of g a)
   pub each : (k : ℕ) → k < groups (kind_of g a) → HasGreatest (length bounds) (offset_from bounds least (unit_at a k)) (get_or offsets k None)
 
 -- an offset is at most what is known to be the offset
-at_most : (g : Graph) (u : Part) (x : ℤ) (o : Option ℤ) → IsOffset g u x → HasOffset g u o → (y : ℤ) × (o ≡ Some y) × (x ≤ℤ y)
+at_most : (g : Graph) (u : Unit) (x : ℤ) (o : Option ℤ) → IsOffset g u x → HasOffset g u o → (y : ℤ) × (o ≡ Some y) × (x ≤ℤ y)
 at_most g u x None is has = absurd (has is.some.0 is.some.1 is.some.2 is.some.3)
 at_most g u x (Some y) is has = (y, refl, subst (λ (z : ℤ). z ≤ℤ y) is.some.4 (has.greatest is.some.0 is.some.1 is.some.2 is.some.3))
 
-module _ (g : Graph) (bounds : List (Option ℕ)) (least : Part → Part → Option Delay) (a : ℕ) (offsets : List (Option ℤ)) (lawful : IsLawful g) (are : AreBounds g bounds) (all : AreLeast g least) (less : a < length g.actors) (units : AreUnitOffsets g bounds least a offsets) where
+module _ (g : Graph) (bounds : List (Option ℕ)) (least : Unit → Unit → Option Delay) (a : ℕ) (offsets : List (Option ℤ)) (lawful : IsLawful g) (are : AreBounds g bounds) (all : AreLeast g least) (less : a < length g.actors) (units : AreUnitOffsets g bounds least a offsets) where
   -- each of them, and none past the end
   pub each_offset : (k : ℕ) → HasOffset g (unit_at a k) (get_or offsets k None)
   each_offset k =
@@ -71,7 +71,7 @@ module _ (g : Graph) (bounds : List (Option ℕ)) (least : Part → Part → Opt
   actor_offset None has = absent has
   actor_offset (Some o) has = present o has
 
-pub small_actor : (g : Graph) (bounds : List (Option ℕ)) (least : Part → Part → Option Delay) (a : ℕ) (offsets : List (Option ℤ)) (found : Option ℤ) (o : ℤ) → AreModest bounds → AreSmall least → AreUnitOffsets g bounds least a offsets → HasGreatest (length offsets) (λ k. get_or offsets k None) found → found ≡ Some o → (neg_ℤ (pos (2 ^ 62)) ≤ℤ o) × (o ≤ℤ pos (2 ^ 62))
+pub small_actor : (g : Graph) (bounds : List (Option ℕ)) (least : Unit → Unit → Option Delay) (a : ℕ) (offsets : List (Option ℤ)) (found : Option ℤ) (o : ℤ) → AreModest bounds → AreSmall least → AreUnitOffsets g bounds least a offsets → HasGreatest (length offsets) (λ k. get_or offsets k None) found → found ≡ Some o → (neg_ℤ (pos (2 ^ 62)) ≤ℤ o) × (o ≤ℤ pos (2 ^ 62))
 small_actor g bounds least a offsets found o modest small units has is =
     let one : IsGreatest (length offsets) (λ k. get_or offsets k None) o = subst (HasGreatest (length offsets) (λ k. get_or offsets k None)) is has in
     let len : length offsets ≡ groups (kind_of g a) = units.len in

@@ -3,7 +3,7 @@ use Rattle.std.specs.Prelude.{◌≡◌, ◌==◌, ◌<◌, ◌^◌, ◌-ℤ◌,
 use Rattle.pt_tags.specs.declared.tag.Delay.{Delay}
 use Rattle.pt_types.specs.declared.graph.Graph.{Graph}
 use Rattle.pt_types.specs.declared.graph.Link.{Link}
-use Rattle.pt_types.specs.declared.graph.Unit.{Unit as Part}
+use Rattle.pt_types.specs.declared.graph.Unit.{Unit}
 use Rattle.pt_types.specs.Ports.{when}
 use Rattle.pt_semantics.specs.Bounds.{bound_of, link_bound}
 use Rattle.pt_semantics.specs.Lists.{first_of}
@@ -32,5 +32,5 @@ offset_by (Some bound) (Some delay) = Some (pos bound -ℤ pos delay.time)
 offset_by _ _ = None
 
 -- the offset of unit u for the source a
-abbrev pub offset_from : List (Option ℕ) → (Part → Part → Option Delay) → Part → ℕ → Option ℤ
+abbrev pub offset_from : List (Option ℕ) → (Unit → Unit → Option Delay) → Unit → ℕ → Option ℤ
 offset_from bounds least u a = offset_by (bound_at bounds a) (least (unit_at a 0) u)

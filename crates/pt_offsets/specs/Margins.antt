@@ -1,7 +1,7 @@
 -- Offsets and margins of actors, and the first sender that can't send in time.
 use Rattle.std.specs.Prelude.{◌≡◌, ◌<◌, ◌+ℤ◌, ◌-ℤ◌, ◌≤ℤ◌, ◌<ℤ◌, ℕ, ℤ, None, Option, Some, pos}
 use Rattle.pt_types.specs.declared.graph.Graph.{Graph}
-use Rattle.pt_types.specs.declared.graph.Unit.{Unit as Part}
+use Rattle.pt_types.specs.declared.graph.Unit.{Unit}
 use Rattle.pt_types.specs.declared.kind.Kind.{Kind}
 use Rattle.pt_types.specs.declared.kind.Kind.TheVariants.{Send}
 use Rattle.pt_types.specs.Lookups.{kind_of}
@@ -9,7 +9,7 @@ use Rattle.pt_semantics.specs.Offsets.{HasOffset}
 use Rattle.pt_semantics.specs.Units.{at_output}
 
 -- a unit of an actor
-abbrev pub unit_at : ℕ → ℕ → Part
+abbrev pub unit_at : ℕ → ℕ → Unit
 unit_at a group = record { actor = a; group = group }
 
 -- o is the greatest offset of the actor's units

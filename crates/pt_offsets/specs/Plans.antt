@@ -1,7 +1,7 @@
 -- Plans: graphs that can run, with what is computed before a run.
 use Rattle.std.specs.Prelude.{◌≡◌, ℕ}
 use Rattle.pt_types.specs.declared.graph.Graph.{Graph}
-use Rattle.pt_types.specs.declared.graph.Unit.{Unit as Part}
+use Rattle.pt_types.specs.declared.graph.Unit.{Unit}
 use Rattle.pt_types.specs.Lawful.{IsLawful}
 use Rattle.pt_semantics.specs.Bounds.{bound_of}
 use Rattle.pt_semantics.specs.Cycles.{NoFreeCycle}
@@ -25,7 +25,7 @@ pub record Parts : Type 0 where
 
 -- these are the offsets of the graph's units and actors, the least ones by word, its bounds and its margins
 pub record AreOffsets (g : Graph) (o : Offsets) : Type 0 where
-  pub units : (u : Part) → HasOffset g u (offset_of o u)
+  pub units : (u : Unit) → HasOffset g u (offset_of o u)
   pub actors : (a : ℕ) → HasActorOffset g a (actor_offset_of o a)
   pub words : (word : ℕ) → IsLeastInWord g word (least_offset_in o word)
   pub bounds : (a : ℕ) → bound_in o a ≡ bound_of g a

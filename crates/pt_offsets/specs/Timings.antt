@@ -2,7 +2,7 @@
 pub use Rattle.pt_offsets.specs.Entries.{no_timing, timing_at}
 use Rattle.std.specs.Prelude.{◌≡◌, ◌<◌, ◌<ℤ◌, ◌≤ℤ◌, ◌+ℤ◌, ℕ, ℤ, pos, List, None, Option, Some, length, slice_index_or}
 use Rattle.pt_types.specs.declared.graph.Graph.{Graph}
-use Rattle.pt_types.specs.declared.graph.Unit.{Unit as Part}
+use Rattle.pt_types.specs.declared.graph.Unit.{Unit}
 use Rattle.pt_types.specs.declared.kind.Kind.{Kind}
 use Rattle.pt_types.specs.declared.kind.Kind.TheVariants.{Send}
 use Rattle.pt_semantics.specs.Bounds.{bound_of}
@@ -16,7 +16,7 @@ use Rattle.pt_offsets.specs.declared.table.Timing.{Timing}
 use Rattle.pt_offsets.specs.Margins.{HasActorOffset, margin_of, unit_at}
 
 -- the offset of a unit, and the greatest offset of an actor's units
-unfoldable pub offset_of : Offsets → Part → Option ℤ
+unfoldable pub offset_of : Offsets → Unit → Option ℤ
 offset_of o u = slice_index_or (timing_at o.actors.items u.actor).offsets u.group None
 
 unfoldable pub actor_offset_of : Offsets → ℕ → Option ℤ

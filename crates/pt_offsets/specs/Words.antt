@@ -1,8 +1,8 @@
 -- The least offsets of words of units: those of eight actors in a row.
-use Rattle.std.specs.Prelude.{◌≡◌, ◌/◌, ◌<◌, ◌≤ℤ◌, ℕ, ℤ, IfSome, List, None, Option, Some, length, slice_index_or}
+use Rattle.std.specs.Prelude.{◌≡◌, ◌/◌, ◌<◌, ◌≤ℤ◌, ℕ, ℤ, IfSome, List, None, Option, Some, length, slice_index_or, ⊤}
 use Rattle.std.specs.Option.{IsSomeAnd}
 use Rattle.pt_types.specs.declared.graph.Graph.{Graph}
-use Rattle.pt_types.specs.declared.graph.Unit.{Unit as Part}
+use Rattle.pt_types.specs.declared.graph.Unit.{Unit}
 use Rattle.pt_semantics.specs.Offsets.{HasOffset}
 use Rattle.pt_causality.specs.Units.{IsUnit}
 use Rattle.pt_offsets.specs.declared.table.Timing.{Timing}
@@ -26,5 +26,5 @@ AreAtMostWords n timings words = (word : ℕ) → IsAtMostWord n timings word (s
 
 -- each unit of the eight actors from 8 * word on has an offset, and it isn't less than o; None says nothing
 abbrev pub IsLeastInWord : Graph → ℕ → Option ℤ → Type 0
-IsLeastInWord g word None = Unit {0}
-IsLeastInWord g word (Some o) = (u : Part) → IsUnit g u → u.actor / 8 ≡ word → (x : ℤ) × HasOffset g u (Some x) × (o ≤ℤ x)
+IsLeastInWord g word None = ⊤
+IsLeastInWord g word (Some o) = (u : Unit) → IsUnit g u → u.actor / 8 ≡ word → (x : ℤ) × HasOffset g u (Some x) × (o ≤ℤ x)

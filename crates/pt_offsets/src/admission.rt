@@ -1,7 +1,7 @@
 //! The offsets of a graph in which each sender can send in time.
 
 ghost use Rattle.std.specs.Prelude.{◌≡◌, ◌<◌, ◌^◌, ℕ, IfOk, IfErr, MatchResult, ◌≤ℤ◌, ◌<ℤ◌, ◌+ℤ◌, true};
-ghost use Rattle.pt_types.specs.declared.graph.Unit.{Unit as Part};
+ghost use Rattle.pt_types.specs.declared.graph.Unit.{Unit};
 ghost use Rattle.pt_types.specs.Kinds.{kind_is_lawful};
 ghost use Rattle.pt_types.specs.declared.kind.Kind.TheVariants.{Send};
 ghost use Rattle.pt_types.specs.Lawful.{IsLawful};
@@ -24,11 +24,14 @@ use std::alloc::Global;
 ///
 /// Only sensors and receivers have a bound, and only senders and actuators
 /// a margin. A unit that no sensor and no receiver leads to has no offset.
-pub fn offsets_of(alloc: Global, graph: &Graph, least: &Least) -> Result<Offsets, OffsetFault>
+///
+/// A sensor of bound 10 us, a delay of 100 us and an actuator of slack 0 us, wired in a row, have offsets 10, 10 and -90: an
+/// event for the actuator is complete 90 us before its time. Its margin is 0 - (-90 + 1) = 89.
+pub fn offsets(alloc: Global, graph: &Graph, least: &Least) -> Result<Offsets, OffsetFault>
     requires lawful { IsLawful graph.now }
     requires least { AreLeast graph.now (least_of least.now) }
     requires small { AreSmall (least_of least.now) }
-    ensures offsets { IfOk result (λ o. (u : Part) → HasOffset graph.now u (offset_of o u)) }
+    ensures offsets { IfOk result (λ o. (u : Unit) → HasOffset graph.now u (offset_of o u)) }
     ensures actors { IfOk result (λ o. (a : ℕ) → HasActorOffset graph.now a (actor_offset_of o a)) }
     ensures words { IfOk result (λ o. (word : ℕ) → IsLeastInWord graph.now word (least_offset_in o word)) }
     ensures bounds { IfOk result (λ o. (a : ℕ) → bound_in o a ≡ bound_of graph.now a) }

@@ -4,7 +4,7 @@
 //! clock is past tag time plus offset, none of these can still give the unit an event at the tag or before it (RTAS 2009).
 //! `HasOffset` in `specs/Offsets.antt` of pt_semantics is the definition.
 //!
-//! Read first: `offsets_of`, then `Plan` and `plan_of`.
+//! Read first: `offsets`, then `Plan` and `plan_of`.
 #![tactic(auto)]
 
 mod admission;
@@ -18,7 +18,7 @@ mod timing;
 mod unit_offsets;
 mod words;
 
-pub use admission::offsets_of;
+pub use admission::offsets;
 pub use fault::{OffsetFault, PlanFault};
 pub use plan::Plan;
 pub use planning::{Unplanned, plan_of};

@@ -1,7 +1,7 @@
 //! A graph that can run.
 
 ghost use Rattle.std.specs.Prelude.{◌≡◌, ℕ};
-ghost use Rattle.pt_types.specs.declared.graph.Unit.{Unit as Part};
+ghost use Rattle.pt_types.specs.declared.graph.Unit.{Unit};
 ghost use Rattle.pt_types.specs.Lawful.{IsLawful};
 ghost use Rattle.pt_semantics.specs.Bounds.{bound_of};
 ghost use Rattle.pt_semantics.specs.Offsets.{HasOffset, IsFeasible};
@@ -57,7 +57,7 @@ impl Plan {
         requires small { AreSmall (least_of least) }
         requires ranks { AreRanks graph (rank_of ranks) }
         requires levels { AreLevels graph (level_of ranks) }
-        requires offsets { (u : Part) → HasOffset graph u (offset_of offsets u) }
+        requires offsets { (u : Unit) → HasOffset graph u (offset_of offsets u) }
         requires actors { (a : ℕ) → HasActorOffset graph a (actor_offset_of offsets a) }
         requires words { (word : ℕ) → IsLeastInWord graph word (least_offset_in offsets word) }
         requires bounds { (a : ℕ) → bound_in offsets a ≡ bound_of graph a }

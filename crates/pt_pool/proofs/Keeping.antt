@@ -1,4 +1,4 @@
--- After a visit a station still belongs to its run.
+-- After a visit a linked platform still belongs to its run.
 use Rattle.std.proofs.Common.{◌≡◌, ℕ, ◌+◌, ◌<◌, Bool, true, false, true≢false, List, [], ◌∷◌, ◌++◌, Some, None, Option, length, map, refl, sym, ap, subst, ◌∙◌, append_assoc, append-nil, length-append, arith}
 use Rattle.std.specs.Prelude.{nat_le, slice_get}
 use Rattle.std.specs.List.{flat_map}
@@ -28,14 +28,14 @@ use Rattle.pt_turn.specs.Turned.{is_late}
 use Rattle.pt_turn.proofs.Coming.{on_append}
 use Rattle.pt_turn.proofs.Sending.{taken_still}
 use Rattle.pt_turn.proofs.Turns.{messages_more}
-use Rattle.pt_io.specs.Told.{IsAsAhead, TellsOneMore}
+use Rattle.pt_io.specs.Clocks.{IsAsAhead, ReportsOneMore}
 use Rattle.pt_io.proofs.Stepping.{ahead_more, handed_more}
 use Rattle.pt_links.specs.declared.rule.Bounds.{Bounds}
 use Rattle.pt_links.specs.Ends.{LinkId, SentBy, TakenBy}
 use Rattle.pt_links.specs.Line.{IsOrderlyBy}
 use Rattle.pt_pool.specs.Ends.{AreEnds, AreNamed, End, end_in, end_out, leaves, receiving_platform}
 use Rattle.pt_pool.specs.Lanes.{Put, Took}
-use Rattle.pt_pool.specs.Station.{AreRead, BelongTogether, IsOfRun, WasVisited}
+use Rattle.pt_pool.specs.LinkedPlatform.{AreRead, BelongTogether, IsOfRun, WasVisited}
 use Rattle.pt_pool.proofs.Lanes.{get_map, got_map, same_some}
 use Rattle.std.proofs.lemmas.Option.{slice_get_within}
 
@@ -175,11 +175,11 @@ module _ (r most : ℕ) (dones : List Done) (old new : PlatformView) (outs outs'
         subst (λ (z : Option Bounds). IsOrderlyBy z f.1.taken) (ap (λ (z : End). z.limits) b.2) (t.orderly (fits.orderly i b.0 b.1));
   }
 
-  pub read_still_by : (fixed : Option (ℕ → ℕ)) (began told told' : Option (List ℕ)) → old.reading ≡ last_reading old.turns → TellsOneMore told r told' → IsAsAhead fixed told r → AreRead fixed began told old.turns → AreRead fixed began told' new.turns
-  read_still_by fixed began told told' reading one ahead (readings, out, as_ahead, is) = (
+  pub read_still_by : (fixed : Option (ℕ → ℕ)) (began reported reported' : Option (List ℕ)) → old.reading ≡ last_reading old.turns → ReportsOneMore reported r reported' → IsAsAhead fixed reported r → AreRead fixed began reported old.turns → AreRead fixed began reported' new.turns
+  read_still_by fixed began reported reported' reading one ahead (readings, out, as_ahead, is) = (
     readings ++ r ∷ [],
-    handed_more began told told' readings r out one,
-    ahead_more fixed began told told' readings r out as_ahead ahead one,
+    handed_more began reported reported' readings r out one,
+    ahead_more fixed began reported reported' readings r out as_ahead ahead one,
     subst (λ (ts : List Turn). IsReadBy ts (readings ++ r ∷ [])) (sym (w.put.gone.turns ∙ ap (on_last (sending w.put.sent)) w.made.turns))
         (read_still w.put.sent (kept_with old.turns w.made.turn) (raised_from 0 (readings ++ r ∷ []))
         (read_on old.turns w.made.turn readings r is w.made.at.2 (w.made.at.0 ∙ sym w.made.at.1) (w.made.at.1 ∙ raised_is old.turns readings r old.reading reading is))),
@@ -187,9 +187,9 @@ module _ (r most : ℕ) (dones : List Done) (old new : PlatformView) (outs outs'
 
 module _ (plan : Option Parts) (rows : ℕ → List Row) (link : ℕ → LinkId) (B : ℕ → Option (List ℕ)) (F : ℕ → Option (ℕ → ℕ)) where
   -- memory ran out: only the clock and the reserved memory changed
-  pub kept_marked : (ahead ahead' : Option (ℕ → ℕ)) (told told' : Option (List ℕ)) (p q : PlatformView) (outs : List (ℕ × SentBy)) (ins : List (ℕ × TakenBy)) (marked : Bool) → IsOfRun plan rows link (B p.number) (F p.number) ahead told p outs ins marked → ahead' ≡ ahead → q ≡ record p { room = q.room } → IsOfRun plan rows link (B q.number) (F q.number) ahead' told' q outs ins true
-  kept_marked ahead ahead' told told' p q outs ins marked k same e =
-      let P : PlatformView → Type 0 = λ v. IsOfRun plan rows link (B v.number) (F v.number) ahead' told' v outs ins true in
+  pub kept_marked : (ahead ahead' : Option (ℕ → ℕ)) (reported reported' : Option (List ℕ)) (p q : PlatformView) (outs : List (ℕ × SentBy)) (ins : List (ℕ × TakenBy)) (marked : Bool) → IsOfRun plan rows link (B p.number) (F p.number) ahead reported p outs ins marked → ahead' ≡ ahead → q ≡ record p { room = q.room } → IsOfRun plan rows link (B q.number) (F q.number) ahead' reported' q outs ins true
+  kept_marked ahead ahead' reported reported' p q outs ins marked k same e =
+      let P : PlatformView → Type 0 = λ v. IsOfRun plan rows link (B v.number) (F v.number) ahead' reported' v outs ins true in
       subst P (sym e) (record {
         plan_is = k.plan_is;
         opened = k.opened;
@@ -202,12 +202,12 @@ module _ (plan : Option Parts) (rows : ℕ → List Row) (link : ℕ → LinkId)
       })
 
   -- a visit was made
-  pub kept_visited : (r most : ℕ) (dones : List Done) (ahead ahead' : Option (ℕ → ℕ)) (told told' : Option (List ℕ)) (p q : PlatformView) (outs outs' : List (ℕ × SentBy)) (ins ins' : List (ℕ × TakenBy)) (handed now : List Task) (marked : Bool) → IsOfRun plan rows link (B p.number) (F p.number) ahead told p outs ins marked → p.fault ≡ None → p.reading ≡ last_reading p.turns
-      → ahead' ≡ ahead → TellsOneMore told r told' → IsAsAhead ahead told r → WasVisited r most dones p q outs outs' ins ins' handed now → IsOfRun plan rows link (B q.number) (F q.number) ahead' told' q outs' ins' marked
-  kept_visited r most dones ahead ahead' told told' p q outs outs' ins ins' handed now marked k none reading same one as_ahead w =
+  pub kept_visited : (r most : ℕ) (dones : List Done) (ahead ahead' : Option (ℕ → ℕ)) (reported reported' : Option (List ℕ)) (p q : PlatformView) (outs outs' : List (ℕ × SentBy)) (ins ins' : List (ℕ × TakenBy)) (handed now : List Task) (marked : Bool) → IsOfRun plan rows link (B p.number) (F p.number) ahead reported p outs ins marked → p.fault ≡ None → p.reading ≡ last_reading p.turns
+      → ahead' ≡ ahead → ReportsOneMore reported r reported' → IsAsAhead ahead reported r → WasVisited r most dones p q outs outs' ins ins' handed now → IsOfRun plan rows link (B q.number) (F q.number) ahead' reported' q outs' ins' marked
+  kept_visited r most dones ahead ahead' reported reported' p q outs outs' ins ins' handed now marked k none reading same one as_ahead w =
       let stays : q.plan ≡ p.plan = plan_stays r most dones p q outs outs' ins ins' handed now w in
       let number : q.number ≡ p.number = number_stays r most dones p q outs outs' ins ins' handed now w in
-      subst (λ (n : ℕ). IsOfRun plan rows link (B n) (F n) ahead' told' q outs' ins' marked) (sym number) (record {
+      subst (λ (n : ℕ). IsOfRun plan rows link (B n) (F n) ahead' reported' q outs' ins' marked) (sym number) (record {
         plan_is = k.plan_is ∙ ap Some (sym stays);
         opened = λ a home. ap (λ (f : ℕ → List Row). f a) (rows_stay r most dones p q outs outs' ins ins' handed now w) ∙ k.opened a (subst (λ (x : Parts). platform_of x.graph a ≡ p.number) stays (home ∙ number));
         number = subst (λ (x : Parts). q.number < length x.graph.platforms) (sym stays) (subst (λ (n : ℕ). n < length p.plan.graph.platforms) (sym number) k.number);
@@ -215,5 +215,5 @@ module _ (plan : Option Parts) (rows : ℕ → List Row) (link : ℕ → LinkId)
         outs_named = subst (AreNamed link) (sym w.put.put.ends) k.outs_named;
         ins_named = subst (AreNamed link) (sym w.took.ends) k.ins_named;
         ahead_is = same ∙ k.ahead_is;
-        reads = λ m. read_still_by r most dones p q outs outs' ins ins' handed now w (F p.number) (B p.number) told told' reading one (subst (λ (z : Option (ℕ → ℕ)). IsAsAhead z told r) k.ahead_is as_ahead) (k.reads m);
+        reads = λ m. read_still_by r most dones p q outs outs' ins ins' handed now w (F p.number) (B p.number) reported reported' reading one (subst (λ (z : Option (ℕ → ℕ)). IsAsAhead z reported r) k.ahead_is as_ahead) (k.reads m);
       })

@@ -1,6 +1,7 @@
-pub mod Lanes
-pub mod Takes
-pub mod Puts
-pub mod Visits
-pub mod Keeping
 pub mod Answering
+pub mod Keeping
+pub mod Lanes
+pub mod Puts
+pub mod Stations
+pub mod Takes
+pub mod Visits

@@ -26,7 +26,7 @@ use Rattle.pt_turn.specs.Turned.{IsTurned, MayCome, is_late}
 use Rattle.pt_visits.proofs.Visits.{MakesTurn, without_room}
 use Rattle.pt_pool.specs.Ends.{End, end_in, end_out, limits_at, limits_of}
 use Rattle.pt_pool.specs.Lanes.{ArePut, AreTaken, Took}
-use Rattle.pt_pool.specs.Station.{BelongTogether, WasVisited}
+use Rattle.pt_pool.specs.LinkedPlatform.{BelongTogether, WasVisited}
 use Rattle.pt_pool.proofs.Lanes.{get_map, got_map}
 
 -- what is orderly by the bounds of a plan's link

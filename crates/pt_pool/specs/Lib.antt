@@ -1,4 +1,5 @@
+pub mod Answers
 pub mod Ends
 pub mod Lanes
-pub mod Station
-pub mod Answers
+pub mod Stations
+pub mod LinkedPlatform

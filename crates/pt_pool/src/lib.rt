@@ -1,13 +1,16 @@
-//! Stations: a platform with its clock and the ends of its links. Any thread may visit one under a lock.
+//! Stations: a platform with its clock, the ends of its links, its board and its waiting results. Any thread may visit one under
+//! a lock. Without the board it is a linked platform.
 //!
-//! Read first: `Station`, then `specs/Station.antt`.
+//! Read first: `LinkedPlatform` with `specs/LinkedPlatform.antt`, then `station::Station` with `specs/Stations/Stations.antt`.
 #![tactic(auto)]
 
+mod facts;
+mod linked;
 mod putting;
 mod run;
-mod station;
+pub mod station;
 mod taking;
 mod visiting;
 
+pub use linked::{LinkedPlatform, Parts, VisitFault};
 pub use run::Run;
-pub use station::{Parts, Station, VisitFault};

@@ -8,7 +8,7 @@ ghost use Rattle.pt_links.specs.Ends.{SentBy};
 ghost use Rattle.pt_pool.specs.Ends.{NumbersDiffer, end_out};
 ghost use Rattle.pt_pool.specs.Lanes.{ArePut, WentOut};
 
-use crate::taking::MOST;
+use crate::taking::MESSAGES_A_VISIT;
 use pt_links::Outlet;
 use pt_turn::Platform;
 use std::sync::Wait;
@@ -20,7 +20,7 @@ fn put_link<R: Wait>(rt: &R, platform: &mut Platform, link: u32, outlet: &mut Ou
     requires orderly { IsOrderlyBy outlet.old.limits (outlet.old.sent ++ on_link link platform.old.outbox) }
     ensures { WentOut link platform.old platform.new outlet.old outlet.new }
 {
-    for _k in 0..MOST {
+    for _k in 0..MESSAGES_A_VISIT {
         let Some(message) = platform.outgoing(link) else {
             return;
         };

@@ -11,7 +11,7 @@ use pt_types::OnLink;
 use std::sync::Wait;
 
 /// The most messages of a link that are taken or sent in one visit.
-pub const MOST: usize = 64;
+pub const MESSAGES_A_VISIT: usize = 64;
 
 /// Takes the messages of one link, until it is found empty or 64 were taken.
 fn take_link<R: Wait>(rt: &R, link: u32, inlet: &mut Inlet, given: &mut Vec<OnLink>)
@@ -19,7 +19,7 @@ fn take_link<R: Wait>(rt: &R, link: u32, inlet: &mut Inlet, given: &mut Vec<OnLi
     ensures room { (vec_len given.new ≤ vec_len given.old + 64) × (vec_capacity given.new ≡ vec_capacity given.old) }
     ensures took { (ms : List Sent) × Took link inlet.old inlet.new ms × (given.new.items ≡ given.old.items ++ map (put_on link) ms) }
 {
-    for _k in 0..MOST {
+    for _k in 0..MESSAGES_A_VISIT {
         let Some(message) = inlet.take(rt) else {
             break;
         };

@@ -1,16 +1,17 @@
 //! A visit of a platform, over the ends of its links.
 
 ghost use Rattle.std.specs.Prelude.{◌≡◌, ◌≤◌, None, OnErr, OnOk};
-ghost use Rattle.pt_post.specs.Posted.{AreDone};
+ghost use Rattle.pt_turn.specs.Posts.Posted.{AreDone};
 ghost use Rattle.pt_turn.specs.Platforms.{PlatformView};
-ghost use Rattle.pt_pool.specs.Station.{BelongTogether, WasVisited};
+ghost use Rattle.pt_pool.specs.LinkedPlatform.{BelongTogether, WasVisited};
 
+use crate::facts::show_running;
 use crate::putting::put_all;
-use crate::taking::{MOST, take_all};
+use crate::taking::{MESSAGES_A_VISIT, take_all};
 use pt_actors::{Done, Tasks};
 use pt_laws::outgoing_lists_stay_orderly;
 use pt_links::{Inlet, Outlet};
-use pt_tags::Memory;
+use pt_tags::{Memory, Reading};
 use pt_turn::{Platform, Room};
 use pt_types::OnLink;
 use std::alloc::Global;
@@ -24,7 +25,7 @@ pub(crate) fn visit_platform<R: Wait>(
     platform: &mut Platform,
     outlets: &mut [(u32, Outlet)],
     inlets: &mut [(u32, Inlet)],
-    reading: u64,
+    reading: Reading,
     done: &[Done],
     most: usize,
     tasks: &mut Tasks,
@@ -36,9 +37,9 @@ pub(crate) fn visit_platform<R: Wait>(
     ensures visited { OnOk result (WasVisited reading most done.now platform.old platform.new outlets.old outlets.new inlets.old inlets.new tasks.old.tasks tasks.new.tasks) }
     ensures refused { OnErr result ((platform.new ≡ record platform.old { room = platform.new.room }) × (outlets.new ≡ outlets.old) × (inlets.new ≡ inlets.old) × (tasks.new.tasks ≡ tasks.old.tasks)) }
 {
-    let _ = platform.fault();
+    show_running(platform);
     outgoing_lists_stay_orderly();
-    let Some(most_taken) = inlets.len().checked_mul(MOST) else {
+    let Some(most_taken) = inlets.len().checked_mul(MESSAGES_A_VISIT) else {
         return Err(Memory);
     };
     let mut given: Vec<OnLink> = Vec::new(alloc);

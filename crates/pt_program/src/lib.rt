@@ -6,9 +6,10 @@
 #![tactic(auto)]
 
 ghost use Rattle.std.specs.Prelude.{◌≡◌, Option, length};
+ghost use Rattle.pt_io.specs.Calls.{reading, writing};
 ghost use Rattle.pt_run.specs.declared.fault.Fault.{Fault};
 ghost use Rattle.pt_run.specs.Complete.{IsComplete};
-ghost use Rattle.pt_run.specs.Due.{IsDue};
+ghost use Rattle.pt_run.specs.Due.{IsDue, as_answer};
 ghost use Rattle.pt_run.specs.InBounds.{IsCompleteInBounds};
 ghost use Rattle.pt_run.specs.Statuses.{status_of};
 ghost use Rattle.pt_words.specs.Grammar.{order_of};
@@ -43,18 +44,15 @@ pub fn status<S: Source, K: Sink, E: Sink, C: Clock + Send, R: Threads + Wait + 
 ) -> u8
     requires clocks { length clocks.items ≡ 16 }
     // It is the status of a fault, or of none, with which the command may end so.
-    ensures ended { (fault : Option Fault) × (left : Leaves) × (result ≡ status_of fault left.misses) × IsDue (order_of words.now) (S.tells source.old) blocks.now.listed.items (record {
-      fault = fault;
-      left = left;
-      read = record { asked_before = S.asked source.old; asked_now = S.asked source.new; before = S.faults source.old; now = S.faults source.new };
-      wrote = record { before = K.faults out.old; now = K.faults out.new; written_before = K.written out.old; written_now = K.written out.new };
-    }) }
-    ensures complete { IsComplete result (order_of words.now) (S.tells source.old) blocks.now.listed.items
-        (record { asked_before = S.asked source.old; asked_now = S.asked source.new; before = S.faults source.old; now = S.faults source.new })
-        (record { before = K.faults out.old; now = K.faults out.new; written_before = K.written out.old; written_now = K.written out.new }) }
-    ensures complete_in_bounds { IsCompleteInBounds result (order_of words.now) (S.tells source.old) blocks.now.listed.items
-        (record { asked_before = S.asked source.old; asked_now = S.asked source.new; before = S.faults source.old; now = S.faults source.new })
-        (record { before = K.faults out.old; now = K.faults out.new; written_before = K.written out.old; written_now = K.written out.new }) }
+    ensures ended { (fault : Option Fault) × (left : Leaves) × (result ≡ status_of fault left.misses)
+        × IsDue (order_of words.now) (S.contents source.old) blocks.now.listed.items
+        (as_answer fault left (reading S.Source source.old source.new) (writing K.Sink out.old out.new)) }
+    ensures complete { IsComplete result (order_of words.now) (S.contents source.old) blocks.now.listed.items
+        (reading S.Source source.old source.new)
+        (writing K.Sink out.old out.new) }
+    ensures complete_in_bounds { IsCompleteInBounds result (order_of words.now) (S.contents source.old) blocks.now.listed.items
+        (reading S.Source source.old source.new)
+        (writing K.Sink out.old out.new) }
 {
     let outcome = ptides(rt, alloc, words, source, out, notes, clocks, blocks);
     let status = outcome.status;

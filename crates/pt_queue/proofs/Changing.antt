@@ -5,7 +5,7 @@ use Rattle.std.proofs.lemmas.List.{get_or-replicate, get_or_past, length-replica
 use Rattle.pt_tags.specs.declared.tag.Tag.{Tag}
 use Rattle.pt_types.specs.declared.firing.Event.{Event}
 use Rattle.pt_types.specs.declared.graph.Graph.{Graph}
-use Rattle.pt_types.specs.declared.graph.Unit.{Unit as Part}
+use Rattle.pt_types.specs.declared.graph.Unit.{Unit}
 use Rattle.pt_types.specs.Lawful.{IsLawful}
 use Rattle.pt_semantics.specs.Lists.{Each}
 use Rattle.pt_semantics.specs.Units.{same_part}
@@ -47,12 +47,12 @@ none_known g table events tags lawful are none is = record {
 }
 
 -- the lines and loose events that are left
-module _ (table : List Groups) (u : Part) (t : Tag) (lines left : List (List Event)) (loose rest : List Event) (kept : AreKept table lines loose)
+module _ (table : List Groups) (u : Unit) (t : Tag) (lines left : List (List Event)) (loose rest : List Event) (kept : AreKept table lines loose)
     (in_lines : left ≡ map (filter (λ (e : Event). not (is_at table u t e))) lines) (others : rest ≡ filter (λ (e : Event). not (is_at table u t e)) loose) where
   pub left_kept : AreKept table left rest
   left_kept = subst (λ ls. AreKept table ls rest) (sym in_lines) (subst (AreKept table (map (filter (λ (e : Event). not (is_at table u t e))) lines)) (sym others) (filtered_kept table (λ (e : Event). not (is_at table u t e)) lines loose kept))
 
-  pub left_known : (tags vs : List (Option Tag)) (o : Option Tag) → AreTags table (all_of (with_events lines loose)) tags → o ≡ least_from table u None (all_of left ++ rest) → ((x : Part) → tag_in vs x ≡ (if same_part u x then o else tag_in tags x)) → length vs ≡ length tags → AreTags table (all_of (with_events left rest)) vs
+  pub left_known : (tags vs : List (Option Tag)) (o : Option Tag) → AreTags table (all_of (with_events lines loose)) tags → o ≡ least_from table u None (all_of left ++ rest) → ((x : Unit) → tag_in vs x ≡ (if same_part u x then o else tag_in tags x)) → length vs ≡ length tags → AreTags table (all_of (with_events left rest)) vs
   left_known tags vs o are is changed len = tags_less table (all_of (with_events lines loose)) (all_of (with_events left rest)) tags vs u o are (is ∙ sym (least_kept table u left rest left_kept)) changed len (λ v ne.
       ap₂ (λ ls es. least_from table v None (all_of (with_events ls es))) in_lines others ∙ least_after table u t lines loose kept v ne)
 

@@ -7,7 +7,7 @@ use Rattle.std.proofs.lemmas.Bool.{cases_Bool, false≢true}
 use Rattle.std.proofs.lemmas.Nat.Bits.{bit_at_and, bit_at-zero}
 use Rattle.pt_tags.specs.declared.tag.Tag.{Tag}
 use Rattle.pt_tags.specs.declared.tag.Delay.{Delay}
-use Rattle.pt_types.specs.declared.graph.Unit.{Unit as Part}
+use Rattle.pt_types.specs.declared.graph.Unit.{Unit}
 use Rattle.pt_semantics.proofs.Lookups.{same_part-refl}
 use Rattle.pt_causality.specs.Before.{MayHave, bit_of}
 use Rattle.pt_queue.specs.declared.groups.Groups.{Groups}
@@ -36,7 +36,7 @@ without_top holds word left bit le less off before i few set gone = ⊎_elim
     (same_or i bit m))
     (below_or i bit)
 
-module _ (table : List Groups) (least : Part → Part → Option Delay) (u : Part) (t : Tag) (tags : List (Option Tag)) (marks : List ℕ) (are : AreMarks tags marks) where
+module _ (table : List Groups) (least : Unit → Unit → Option Delay) (u : Unit) (t : Tag) (tags : List (Option Tag)) (marks : List ℕ) (are : AreMarks tags marks) where
   -- the unit with place n holds up u
   abbrev holds : ℕ → Bool
   holds n = unit_holds_up table least u t tags (unit_with n)
@@ -52,7 +52,7 @@ module _ (table : List Groups) (least : Part → Part → Option Delay) (u : Par
       (cases_Bool (holds n))
 
   -- nor where its bit is not set in both
-  pub bit_clear : (before : List ℕ) → ((x : Part) → IsSome (least x u) → MayHave before x) → (n : ℕ) → n / 64 < length before → bit_at (bit_and (slice_index_or marks (n / 64) 0) (slice_index_or before (n / 64) 0)) (n % 64) ≡ 0 → holds n ≡ false
+  pub bit_clear : (before : List ℕ) → ((x : Unit) → IsSome (least x u) → MayHave before x) → (n : ℕ) → n / 64 < length before → bit_at (bit_and (slice_index_or marks (n / 64) 0) (slice_index_or before (n / 64) 0)) (n % 64) ≡ 0 → holds n ≡ false
   bit_clear before all n l zero = ⊎_elim
       (λ (y : holds n ≡ true).
       let has = holder_has table least u t (unit_with n) (tag_in tags (unit_with n)) y in
@@ -64,11 +64,11 @@ module _ (table : List Groups) (least : Part → Part → Option Delay) (u : Par
       (λ (no : holds n ≡ false). no)
       (cases_Bool (holds n))
 
-  pub word_clear : (before : List ℕ) → ((x : Part) → IsSome (least x u) → MayHave before x) → (n : ℕ) → n / 64 < length before → bit_and (slice_index_or marks (n / 64) 0) (slice_index_or before (n / 64) 0) ≡ 0 → holds n ≡ false
+  pub word_clear : (before : List ℕ) → ((x : Unit) → IsSome (least x u) → MayHave before x) → (n : ℕ) → n / 64 < length before → bit_and (slice_index_or marks (n / 64) 0) (slice_index_or before (n / 64) 0) ≡ 0 → holds n ≡ false
   word_clear before all n l none = bit_clear before all n l (ap (λ w. bit_at w (n % 64)) none ∙ bit_at-zero (n % 64))
 
-  module _ (before : List ℕ) (all : (x : Part) → IsSome (least x u) → MayHave before x) (index m b : ℕ) (own : m ≡ slice_index_or marks index 0)
-      (other : (x : Part) → MayHave before x → x.group < 8 → (8 * x.actor + x.group) / 64 ≡ index → bit_at b ((8 * x.actor + x.group) % 64) ≡ 1) where
+  module _ (before : List ℕ) (all : (x : Unit) → IsSome (least x u) → MayHave before x) (index m b : ℕ) (own : m ≡ slice_index_or marks index 0)
+      (other : (x : Unit) → MayHave before x → x.group < 8 → (8 * x.actor + x.group) / 64 ≡ index → bit_at b ((8 * x.actor + x.group) % 64) ≡ 1) where
     in_both : (n i : ℕ) → i < 64 → n ≡ 64 * index + i → holds n ≡ true → bit_at (bit_and m b) i ≡ 1
     in_both n i l is h =
         let has = holder_has table least u t (unit_with n) (tag_in tags (unit_with n)) h in
@@ -94,23 +94,23 @@ module _ (table : List Groups) (least : Part → Part → Option Delay) (u : Par
         (below_or n (64 * (len - behind)))
 
 -- a unit does not hold up itself
-not_itself : (table : List Groups) (least : Part → Part → Option Delay) (u : Part) (t : Tag) (o : Option Tag) → tag_holds_up table least u t u o ≡ false
+not_itself : (table : List Groups) (least : Unit → Unit → Option Delay) (u : Unit) (t : Tag) (o : Option Tag) → tag_holds_up table least u t u o ≡ false
 not_itself table least u t None = refl
 not_itself table least u t (Some w) = ap (λ b. not b && (reaches (least u u) w t && nat_lt u.group (groups_at table u.actor).count)) (same_part-refl u)
 
 -- all units, by their places
-pub no_holder : (table : List Groups) (least : Part → Part → Option Delay) (u : Part) (t : Tag) (tags : List (Option Tag)) → ((n : ℕ) → unit_holds_up table least u t tags (unit_with n) ≡ false) → IsHolder table least u t tags None
+pub no_holder : (table : List Groups) (least : Unit → Unit → Option Delay) (u : Unit) (t : Tag) (tags : List (Option Tag)) → ((n : ℕ) → unit_holds_up table least u t tags (unit_with n) ≡ false) → IsHolder table least u t tags None
 no_holder table least u t tags none = λ x. ⊎_elim
     (λ (l : x.group < 8). subst (λ z. unit_holds_up table least u t tags z ≡ false) (with_place x l) (none (8 * x.actor + x.group)))
     (λ (m : 8 ≤ x.group). ap (tag_holds_up table least u t x) (no_place tags x m))
     (below_or x.group 8)
 
-pub none_found : (o : Option Part) → is_some o ≡ false → o ≡ None
+pub none_found : (o : Option Unit) → is_some o ≡ false → o ≡ None
 none_found None h = refl
 none_found (Some x) h = absurd (false≢true (sym h))
 
 -- outside of the words that have bits no unit holds up
-module _ (table : List Groups) (least : Part → Part → Option Delay) (u : Part) (t : Tag) (tags : List (Option Tag)) (from end : ℕ)
+module _ (table : List Groups) (least : Unit → Unit → Option Delay) (u : Unit) (t : Tag) (tags : List (Option Tag)) (from end : ℕ)
     (span : (n : ℕ) → one_if (slice_index_or tags n None) ≡ 1 → (from ≤ n / 64) × (n / 64 < end)) where
   outside : (n : ℕ) → ((from ≤ n / 64) × (n / 64 < end) → ⊥) → unit_holds_up table least u t tags (unit_with n) ≡ false
   outside n away = ⊎_elim
@@ -129,7 +129,7 @@ module _ (table : List Groups) (least : Part → Part → Option Delay) (u : Par
       (below_or (n / 64) from))
 
   -- what two parts of the words give
-  pub found_among : (middle : ℕ) (o p : Option Part) → IsHolderAmong table least u t tags from middle o → is_some o ≡ false → IsHolderAmong table least u t tags middle end p → IsHolder table least u t tags p
+  pub found_among : (middle : ℕ) (o p : Option Unit) → IsHolderAmong table least u t tags from middle o → is_some o ≡ false → IsHolderAmong table least u t tags middle end p → IsHolder table least u t tags p
   found_among middle o (Some h) front none rest = rest
   found_among middle o None front none rest = within (λ n high l. ⊎_elim
       (λ (k : n / 64 < middle). subst (IsHolderAmong table least u t tags from middle) (none_found o none) front n (omega (arith, high)) (omega (arith, k)))
@@ -137,7 +137,7 @@ module _ (table : List Groups) (least : Part → Part → Option Delay) (u : Par
       (below_or (n / 64) middle))
 
   -- no unit holds up where the words share no bit but its own
-  pub none_shared : (marks before : List ℕ) → AreMarks tags marks → ((x : Part) → IsSome (least x u) → MayHave before x) → u.group < 8
+  pub none_shared : (marks before : List ℕ) → AreMarks tags marks → ((x : Unit) → IsSome (least x u) → MayHave before x) → u.group < 8
       → ((n : ℕ) → from ≤ n / 64 → n / 64 < end → n ≢ 8 * u.actor + u.group → (n / 64 < length before) × (bit_at (bit_and (slice_index_or marks (n / 64) 0) (slice_index_or before (n / 64) 0)) (n % 64) ≡ 0))
       → IsHolder table least u t tags None
   none_shared marks before marked all group none = within (λ n high l. ⊎_elim

@@ -2,7 +2,7 @@
 use Rattle.std.proofs.Common.{◌≡◌, ◌≢◌, ℕ, ◌+◌, ◌/◌, ◌<◌, ◌≤◌, ◌⊎◌, List, Option, Some, None, length, replicate, slice_index_or, slice_set, sym, ap, subst, ◌∙◌, ⊎_elim, arith}
 use Rattle.std.proofs.lemmas.List.{get_or-set_same, get_or-set_other, length-replicate, length-set}
 use Rattle.pt_tags.specs.declared.tag.Tag.{Tag}
-use Rattle.pt_types.specs.declared.graph.Unit.{Unit as Part}
+use Rattle.pt_types.specs.declared.graph.Unit.{Unit}
 use Rattle.pt_semantics.proofs.Lookups.{none_some, same_some}
 use Rattle.pt_queue.specs.Events.{unit_place}
 use Rattle.pt_queue.specs.Tagged.{AreFloors, tag_in}
@@ -57,7 +57,7 @@ floors_empty tags marks times index time are marked zero = record {
 }
 
 -- the time of a unit's word
-pub floor_below : (tags : List (Option Tag)) (times : List ℕ) (word time : ℕ) → AreFloors tags times → time ≡ slice_index_or times word 0 → (u : Part) (t : Tag) → tag_in tags u ≡ Some t → unit_place u / 64 ≡ word → time ≤ t.time
+pub floor_below : (tags : List (Option Tag)) (times : List ℕ) (word time : ℕ) → AreFloors tags times → time ≡ slice_index_or times word 0 → (u : Unit) (t : Tag) → tag_in tags u ≡ Some t → unit_place u / 64 ≡ word → time ≤ t.time
 floor_below tags times word time are is u t e at =
     let here : slice_index_or times (unit_place u / 64) 0 ≤ t.time = are.floors (unit_place u) t (sym (in_place tags u (has_place tags u t e)) ∙ e) in
     subst (λ k. k ≤ t.time) (sym (is ∙ ap (λ k. slice_index_or times k 0) (sym at))) here

@@ -5,7 +5,7 @@ use Rattle.std.proofs.lemmas.List.{append-nil}
 use Rattle.pt_tags.specs.declared.tag.Tag.{Tag}
 use Rattle.pt_tags.specs.Tags.{same_tag, tag_lt, Before}
 use Rattle.pt_types.specs.declared.firing.Event.{Event}
-use Rattle.pt_types.specs.declared.graph.Unit.{Unit as Part}
+use Rattle.pt_types.specs.declared.graph.Unit.{Unit}
 use Rattle.pt_semantics.specs.Lists.{Each}
 use Rattle.pt_semantics.specs.Units.{same_part}
 use Rattle.pt_semantics.proofs.Lookups.{Each-from, Each-in, same_part-true}
@@ -54,13 +54,13 @@ swap_ifs true false best s t = refl
 swap_ifs false c best s t = refl
 
 -- an event counts the same before others and after them
-pub least_pushed : (table : List Groups) (u : Part) (best : Option Tag) (e : Event) (xs : List Event) → least_from table u (sooner_if (is_of table u e) best e.tag) xs ≡ sooner_if (is_of table u e) (least_from table u best xs) e.tag
+pub least_pushed : (table : List Groups) (u : Unit) (best : Option Tag) (e : Event) (xs : List Event) → least_from table u (sooner_if (is_of table u e) best e.tag) xs ≡ sooner_if (is_of table u e) (least_from table u best xs) e.tag
 least_pushed table u best e [] = refl
 least_pushed table u best e (x ∷ xs) =
     ap (λ o. least_from table u o xs) (swap_ifs (is_of table u x) (is_of table u e) best x.tag e.tag)
     ∙ least_pushed table u (sooner_if (is_of table u x) best x.tag) e xs
 
-least_joined_at : (table : List Groups) (u : Part) (best : Option Tag) (lines : List (List Event)) (n : ℕ) (e : Event) → n < length lines → least_from table u best (all_of (slice_set lines n (line_at lines n ++ e ∷ []))) ≡ sooner_if (is_of table u e) (least_from table u best (all_of lines)) e.tag
+least_joined_at : (table : List Groups) (u : Unit) (best : Option Tag) (lines : List (List Event)) (n : ℕ) (e : Event) → n < length lines → least_from table u best (all_of (slice_set lines n (line_at lines n ++ e ∷ []))) ≡ sooner_if (is_of table u e) (least_from table u best (all_of lines)) e.tag
 least_joined_at table u best [] n e l = absurd (omega (arith, l))
 least_joined_at table u best (line ∷ lines) zero e l =
     least_append table u best (line ++ e ∷ []) (all_of lines)
@@ -72,7 +72,7 @@ least_joined_at table u best (line ∷ lines) (suc n) e l =
     ∙ least_joined_at table u (least_from table u best line) lines n e (omega (arith, l))
     ∙ ap (λ o. sooner_if (is_of table u e) o e.tag) (sym (least_append table u best line (all_of lines)))
 
-pub least_settled : (table : List Groups) (u : Part) (best : Option Tag) (lines : List (List Event)) (loose : List Event) → Each (λ (e : Event). line_of_event e < length lines) loose → least_from table u best (all_of (with_events lines loose)) ≡ least_from table u best (all_of lines ++ loose)
+pub least_settled : (table : List Groups) (u : Unit) (best : Option Tag) (lines : List (List Event)) (loose : List Event) → Each (λ (e : Event). line_of_event e < length lines) loose → least_from table u best (all_of (with_events lines loose)) ≡ least_from table u best (all_of lines ++ loose)
 least_settled table u best lines [] h = ap (least_from table u best) (sym (append-nil (all_of lines)))
 least_settled table u best lines (e ∷ es) h =
     least_settled table u best (joined_by lines e) es (joined_length lines e es h.1)
@@ -84,11 +84,11 @@ pub have_lines : (table : List Groups) (lines : List (List Event)) (loose : List
 have_lines table lines loose k = Each-from (λ (e : Event). line_of_event e < length lines) loose (λ e m. has_line table lines e k.count (Each-in (IsPlaced table) loose k.placed e m))
 
 -- the least tags of a queue's events
-pub least_kept : (table : List Groups) (u : Part) (lines : List (List Event)) (loose : List Event) → AreKept table lines loose → least_from table u None (all_of (with_events lines loose)) ≡ least_from table u None (all_of lines ++ loose)
+pub least_kept : (table : List Groups) (u : Unit) (lines : List (List Event)) (loose : List Event) → AreKept table lines loose → least_from table u None (all_of (with_events lines loose)) ≡ least_from table u None (all_of lines ++ loose)
 least_kept table u lines loose k = least_settled table u None lines loose (have_lines table lines loose k)
 
 -- after one event more
-pub least_joined : (table : List Groups) (lines : List (List Event)) (loose : List Event) (e : Event) → AreKept table lines loose → IsPlaced table e → AreKept table (joined_by lines e) loose → (u : Part) → least_from table u None (all_of (with_events (joined_by lines e) loose)) ≡ sooner_if (is_of table u e) (least_from table u None (all_of (with_events lines loose))) e.tag
+pub least_joined : (table : List Groups) (lines : List (List Event)) (loose : List Event) (e : Event) → AreKept table lines loose → IsPlaced table e → AreKept table (joined_by lines e) loose → (u : Unit) → least_from table u None (all_of (with_events (joined_by lines e) loose)) ≡ sooner_if (is_of table u e) (least_from table u None (all_of (with_events lines loose))) e.tag
 least_joined table lines loose e k placed new u =
     least_kept table u (joined_by lines e) loose new
     ∙ least_append table u None (all_of (joined_by lines e)) loose
@@ -96,13 +96,13 @@ least_joined table lines loose e k placed new u =
     ∙ least_pushed table u (least_from table u None (all_of lines)) e loose
     ∙ ap (λ o. sooner_if (is_of table u e) o e.tag) (sym (least_kept table u lines loose k ∙ least_append table u None (all_of lines) loose))
 
-pub least_loose : (table : List Groups) (lines : List (List Event)) (loose : List Event) (e : Event) → AreKept table lines loose → IsPlaced table e → (u : Part) → least_from table u None (all_of (with_events lines (loose ++ e ∷ []))) ≡ sooner_if (is_of table u e) (least_from table u None (all_of (with_events lines loose))) e.tag
+pub least_loose : (table : List Groups) (lines : List (List Event)) (loose : List Event) (e : Event) → AreKept table lines loose → IsPlaced table e → (u : Unit) → least_from table u None (all_of (with_events lines (loose ++ e ∷ []))) ≡ sooner_if (is_of table u e) (least_from table u None (all_of (with_events lines loose))) e.tag
 least_loose table lines loose e k placed u =
     ap (λ ls. least_from table u None (all_of ls)) (settled_push lines loose e)
     ∙ least_joined_at table u None (with_events lines loose) (line_of_event e) e (has_line table (with_events lines loose) e (settled_kept table lines loose k).count placed)
 
 -- after those of another unit were removed
-least_left : (table : List Groups) (v u : Part) (t : Tag) (best : Option Tag) (xs : List Event) → same_part v u ≡ false → least_from table u best (filter (λ (e : Event). not (is_at table v t e)) xs) ≡ least_from table u best xs
+least_left : (table : List Groups) (v u : Unit) (t : Tag) (best : Option Tag) (xs : List Event) → same_part v u ≡ false → least_from table u best (filter (λ (e : Event). not (is_at table v t e)) xs) ≡ least_from table u best xs
 least_left table v u t best [] h = refl
 least_left table v u t best (x ∷ xs) h = ⊎_elim
     (λ (gone : is_at table v t x ≡ true).
@@ -117,7 +117,7 @@ least_left table v u t best (x ∷ xs) h = ⊎_elim
     other : is_at table v t x ≡ true → is_of table u x ≡ false
     other gone = subst (λ z. same_part z u ≡ false) (sym (same_part-true (unit_in table x) v (and_parts (is_of table v x) (same_tag t x.tag) gone).0)) h
 
-pub least_after : (table : List Groups) (v : Part) (t : Tag) (lines : List (List Event)) (loose : List Event) → AreKept table lines loose → (u : Part) → same_part v u ≡ false →
+pub least_after : (table : List Groups) (v : Unit) (t : Tag) (lines : List (List Event)) (loose : List Event) → AreKept table lines loose → (u : Unit) → same_part v u ≡ false →
     least_from table u None (all_of (with_events (map (filter (λ (e : Event). not (is_at table v t e))) lines) (filter (λ (e : Event). not (is_at table v t e)) loose))) ≡ least_from table u None (all_of (with_events lines loose))
 least_after table v t lines loose k u ne =
     least_kept table u (map (filter (λ (e : Event). not (is_at table v t e))) lines) (filter (λ (e : Event). not (is_at table v t e)) loose) (filtered_kept table (λ (e : Event). not (is_at table v t e)) lines loose k)

@@ -6,7 +6,7 @@ use Rattle.pt_tags.specs.declared.tag.Delay.{Delay}
 use Rattle.pt_tags.specs.Tags.{same_tag, UpTo, Before, tag_lt, plus}
 use Rattle.pt_types.specs.declared.firing.Event.{Event}
 use Rattle.pt_types.specs.declared.graph.Graph.{Graph}
-use Rattle.pt_types.specs.declared.graph.Unit.{Unit as Part}
+use Rattle.pt_types.specs.declared.graph.Unit.{Unit}
 use Rattle.pt_types.specs.Lawful.{IsLawful}
 use Rattle.pt_semantics.specs.Lists.{first_of, IsIn, Each, or_else}
 use Rattle.pt_semantics.specs.Edges.{Edge}
@@ -28,13 +28,13 @@ use Rattle.pt_queue.specs.Scans.{is_of, unit_in, least_from, sooner_if, sooner, 
 use Rattle.pt_queue.proofs.Waits.{unit_at}
 
 -- an event of a unit at a tag, in the list
-pub record Has (table : List Groups) (xs : List Event) (u : Part) (t : Tag) : Type 0 where
+pub record Has (table : List Groups) (xs : List Event) (u : Unit) (t : Tag) : Type 0 where
   pub event : Event
   pub in_list : IsIn event xs
   pub unit : unit_in table event ≡ u
   pub tag : event.tag ≡ t
 
-pub event_of : (g : Graph) (table : List Groups) (xs : List Event) (u : Part) (t : Tag) → AreGroups g table → Each (IsPlaced table) xs → HasEvent g (waiting_in xs) u t → Has table xs u t
+pub event_of : (g : Graph) (table : List Groups) (xs : List Event) (u : Unit) (t : Tag) → AreGroups g table → Each (IsPlaced table) xs → HasEvent g (waiting_in xs) u t → Has table xs u t
 event_of g table xs u t are placed h =
     let a = event_found g (waiting_in xs) u t h in
     let f = first_of_found (λ (e : Event). value_in e u.actor a.port t) xs a.value a.waits_there in
@@ -73,12 +73,12 @@ has_of g table xs e are placed mem =
 
 -- the least tag so far, over a list
 
-pub record Over (table : List Groups) (u : Part) (best : Option Tag) (es : List Event) (t : Tag) : Type 0 where
+pub record Over (table : List Groups) (u : Unit) (best : Option Tag) (es : List Event) (t : Tag) : Type 0 where
   pub found : (best ≡ Some t) ⊎ ((e : Event) × IsIn e es × (is_of table u e ≡ true) × (e.tag ≡ t))
   pub below : (b : Tag) → best ≡ Some b → UpTo t b
   pub all : (e : Event) → IsIn e es → is_of table u e ≡ true → UpTo t e.tag
 
-abbrev OverAll : List Groups → Part → Option Tag → List Event → Option Tag → Type 0
+abbrev OverAll : List Groups → Unit → Option Tag → List Event → Option Tag → Type 0
 OverAll table u best es None = (best ≡ None) × ((e : Event) → IsIn e es → is_of table u e ≡ false)
 OverAll table u best es (Some t) = Over table u best es t
 
@@ -94,7 +94,7 @@ up_from t u h = ⊎_elim (λ (b : Before u t). absurd (false≢true (sym h ∙ t
     either : (t u : Tag) → Before u t ⊎ UpTo t u
     either t u = grind arith
 
-skip : (table : List Groups) (u : Part) (best : Option Tag) (e : Event) (es : List Event) (r : Option Tag) → is_of table u e ≡ false → OverAll table u best es r → OverAll table u best (e ∷ es) r
+skip : (table : List Groups) (u : Unit) (best : Option Tag) (e : Event) (es : List Event) (r : Option Tag) → is_of table u e ≡ false → OverAll table u best es r → OverAll table u best (e ∷ es) r
 skip table u best e es None h k = (k.0, λ x m. ⊎_elim (λ (same : x ≡ e). subst (λ z. is_of table u z ≡ false) (sym same) h) (λ (rest : IsIn x es). k.1 x rest) m)
 skip table u best e es (Some t) h k = record {
   found = ⊎_elim (λ (b : best ≡ Some t). inl b) (λ (w : (x : Event) × IsIn x es × (is_of table u x ≡ true) × (x.tag ≡ t)). inr (w.0, inr w.1, w.2, w.3)) k.found;
@@ -103,7 +103,7 @@ skip table u best e es (Some t) h k = record {
 }
 
 -- one event more of the unit, where the new best b is at most both
-take_one : (table : List Groups) (u : Part) (best : Option Tag) (e : Event) (es : List Event) (r : Option Tag) (b : Tag) → is_of table u e ≡ true → UpTo b e.tag → ((c : Tag) → best ≡ Some c → UpTo b c) → ((best ≡ Some b) ⊎ (e.tag ≡ b)) → OverAll table u (Some b) es r → OverAll table u best (e ∷ es) r
+take_one : (table : List Groups) (u : Unit) (best : Option Tag) (e : Event) (es : List Event) (r : Option Tag) (b : Tag) → is_of table u e ≡ true → UpTo b e.tag → ((c : Tag) → best ≡ Some c → UpTo b c) → ((best ≡ Some b) ⊎ (e.tag ≡ b)) → OverAll table u (Some b) es r → OverAll table u best (e ∷ es) r
 take_one table u best e es None b h up old is k = absurd (none_some b (sym k.0))
 take_one table u best e es (Some t) b h up old is k = let tb : UpTo t b = k.below b refl in record {
   found = ⊎_elim
@@ -113,31 +113,31 @@ take_one table u best e es (Some t) b h up old is k = let tb : UpTo t b = k.belo
   all = λ x m y. ⊎_elim (λ (same : x ≡ e). subst (λ (z : Event). UpTo t z.tag) (sym same) (up_trans t b e.tag tb up)) (λ (rest : IsIn x es). k.all x rest y) m;
 }
 
-take_two : (table : List Groups) (u : Part) (c : Tag) (e : Event) (es : List Event) (r : Option Tag) (b : Bool) → is_of table u e ≡ true → tag_lt e.tag c ≡ b → OverAll table u (if b then Some e.tag else Some c) es r → OverAll table u (Some c) (e ∷ es) r
+take_two : (table : List Groups) (u : Unit) (c : Tag) (e : Event) (es : List Event) (r : Option Tag) (b : Bool) → is_of table u e ≡ true → tag_lt e.tag c ≡ b → OverAll table u (if b then Some e.tag else Some c) es r → OverAll table u (Some c) (e ∷ es) r
 take_two table u c e es r true h lt k = take_one table u (Some c) e es r e.tag h (up_refl e.tag) (λ d s. let l : Before e.tag c = tag_lt-true e.tag c lt in subst (λ z. UpTo e.tag z) (same_some c d s) (weak e.tag c l)) (inr refl) k
   where
     weak : (s t : Tag) → Before s t → UpTo s t
     weak s t l = grind arith
 take_two table u c e es r false h lt k = take_one table u (Some c) e es r c h (up_from c e.tag lt) (λ d s. subst (λ z. UpTo c z) (same_some c d s) (up_refl c)) (inl refl) k
 
-taking : (table : List Groups) (u : Part) (best : Option Tag) (e : Event) (es : List Event) (r : Option Tag) → is_of table u e ≡ true → OverAll table u (sooner best e.tag) es r → OverAll table u best (e ∷ es) r
+taking : (table : List Groups) (u : Unit) (best : Option Tag) (e : Event) (es : List Event) (r : Option Tag) → is_of table u e ≡ true → OverAll table u (sooner best e.tag) es r → OverAll table u best (e ∷ es) r
 taking table u None e es r h k = take_one table u None e es r e.tag h (up_refl e.tag) (λ c s. absurd (none_some c s)) (inr refl) k
 taking table u (Some c) e es r h k = take_two table u c e es r (tag_lt e.tag c) h refl k
 
-stepping : (table : List Groups) (u : Part) (best : Option Tag) (e : Event) (es : List Event) (r : Option Tag) (b : Bool) → is_of table u e ≡ b → OverAll table u (sooner_if b best e.tag) es r → OverAll table u best (e ∷ es) r
+stepping : (table : List Groups) (u : Unit) (best : Option Tag) (e : Event) (es : List Event) (r : Option Tag) (b : Bool) → is_of table u e ≡ b → OverAll table u (sooner_if b best e.tag) es r → OverAll table u best (e ∷ es) r
 stepping table u best e es r true h k = taking table u best e es r h k
 stepping table u best e es r false h k = skip table u best e es r h k
 
-least_over : (table : List Groups) (u : Part) (best : Option Tag) (es : List Event) → OverAll table u best es (least_from table u best es)
+least_over : (table : List Groups) (u : Unit) (best : Option Tag) (es : List Event) → OverAll table u best es (least_from table u best es)
 least_over table u None [] = (refl, λ e m. absurd m)
 least_over table u (Some b) [] = record { found = inl refl; below = λ c s. subst (λ z. UpTo b z) (same_some b c s) (up_refl b); all = λ e m. absurd m }
 least_over table u best (e ∷ es) = stepping table u best e es (least_from table u best (e ∷ es)) (is_of table u e) refl (least_over table u (sooner_if (is_of table u e) best e.tag) es)
 
-of_unit : (table : List Groups) (u : Part) (e : Event) → unit_in table e ≡ u → is_of table u e ≡ true
+of_unit : (table : List Groups) (u : Unit) (e : Event) → unit_in table e ≡ u → is_of table u e ≡ true
 of_unit table u e h = subst (λ z. same_part (unit_in table e) z ≡ true) h (same_part-refl (unit_in table e))
 
 -- an event has the least tag, and no event of its unit a lesser one
-pub least_found : (table : List Groups) (xs : List Event) (u : Part) (t : Tag) → least_from table u None xs ≡ Some t → (e : Event) × IsIn e xs × (unit_in table e ≡ u) × (e.tag ≡ t)
+pub least_found : (table : List Groups) (xs : List Event) (u : Unit) (t : Tag) → least_from table u None xs ≡ Some t → (e : Event) × IsIn e xs × (unit_in table e ≡ u) × (e.tag ≡ t)
 least_found table xs u t h = ⊎_elim
     (λ (s : None ≡ Some t). absurd (none_some t s))
     (λ (w : (x : Event) × IsIn x xs × (is_of table u x ≡ true) × (x.tag ≡ t)). (w.0, w.1, same_part-true (unit_in table w.0) u w.2, w.3))
@@ -150,7 +150,7 @@ least_below table xs e m = by (least_from table (unit_in table e) None xs) refl
     by None h = absurd (false≢true (sym ((subst (OverAll table (unit_in table e) None xs) h (least_over table (unit_in table e) None xs)).1 e m) ∙ of_unit table (unit_in table e) e refl))
     by (Some t) h = (t, h, (subst (OverAll table (unit_in table e) None xs) h (least_over table (unit_in table e) None xs)).all e m (of_unit table (unit_in table e) e refl))
 
-from_over : (g : Graph) (table : List Groups) (xs : List Event) (u : Part) (r : Option Tag) → AreGroups g table → Each (IsPlaced table) xs → OverAll table u None xs r → IsLeastTag g (waiting_in xs) u r
+from_over : (g : Graph) (table : List Groups) (xs : List Event) (u : Unit) (r : Option Tag) → AreGroups g table → Each (IsPlaced table) xs → OverAll table u None xs r → IsLeastTag g (waiting_in xs) u r
 from_over g table xs u None are placed k = λ t h. let f = event_of g table xs u t are placed h in false≢true (sym (k.1 f.event f.in_list) ∙ of_unit table u f.event f.unit)
 from_over g table xs u (Some t) are placed k = (
   ⊎_elim (λ (s : None ≡ Some t). absurd (none_some t s))
@@ -159,7 +159,7 @@ from_over g table xs u (Some t) are placed k = (
   λ w h. let f = event_of g table xs u w are placed h in subst (λ z. UpTo t z) f.tag (k.all f.event f.in_list (of_unit table u f.event f.unit)),
 )
 
-pub least_is : (g : Graph) (table : List Groups) (xs : List Event) (u : Part) → AreGroups g table → Each (IsPlaced table) xs → IsLeastTag g (waiting_in xs) u (least_from table u None xs)
+pub least_is : (g : Graph) (table : List Groups) (xs : List Event) (u : Unit) → AreGroups g table → Each (IsPlaced table) xs → IsLeastTag g (waiting_in xs) u (least_from table u None xs)
 least_is g table xs u are placed = from_over g table xs u (least_from table u None xs) are placed (least_over table u None xs)
 
 -- what blocks
@@ -173,20 +173,20 @@ not_true : (b : Bool) → not b ≡ false → b ≡ true
 not_true true h = refl
 not_true false h = absurd (false≢true (sym h))
 
-pub reach_past : (g : Graph) (x u : Part) (d : Option Delay) (t w : Tag) → HasLeast g x u d → reaches d w t ≡ false → (path : List Edge) → Goes g x path u → Before t (plus w (sum_along path))
+pub reach_past : (g : Graph) (x u : Unit) (d : Option Delay) (t w : Tag) → HasLeast g x u d → reaches d w t ≡ false → (path : List Edge) → Goes g x path u → Before t (plus w (sum_along path))
 reach_past g x u None t w is h path go = absurd (is path go)
 reach_past g x u (Some d) t w is h path go = (past_least g x u d t w is).0 (tag_lt-true t (plus w d) (not_true (tag_lt t (plus w d)) h)) path go
 
-pub past_reach : (g : Graph) (x u : Part) (d : Option Delay) (t w : Tag) → HasLeast g x u d → ((path : List Edge) → Goes g x path u → Before t (plus w (sum_along path))) → reaches d w t ≡ false
+pub past_reach : (g : Graph) (x u : Unit) (d : Option Delay) (t w : Tag) → HasLeast g x u d → ((path : List Edge) → Goes g x path u → Before t (plus w (sum_along path))) → reaches d w t ≡ false
 past_reach g x u None t w is h = refl
 past_reach g x u (Some d) t w is h = ap not (tag_lt-from t (plus w d) ((past_least g x u d t w is).1 h))
 
 -- a path leads from another unit alone
-pub from_unit : (g : Graph) (x u : Part) (path : List Edge) → IsLawful g → x ≢ u → Goes g x path u → IsUnit g x
+pub from_unit : (g : Graph) (x u : Unit) (path : List Edge) → IsLawful g → x ≢ u → Goes g x path u → IsUnit g x
 from_unit g x u [] lawful ne go = absurd (ne go)
 from_unit g x u (e ∷ path) lawful ne go = subst (IsUnit g) go.1 (ends_are_units g e lawful go.0).0
 
-pub blocked_by : (g : Graph) (waits : Values) (x u : Part) (t w : Tag) (o : Option Delay) → HasLeast g x u o → reaches o w t ≡ true → x ≢ u → HasEvent g waits x w → IsBlocked g waits u t
+pub blocked_by : (g : Graph) (waits : Values) (x u : Unit) (t w : Tag) (o : Option Delay) → HasLeast g x u o → reaches o w t ≡ true → x ≢ u → HasEvent g waits x w → IsBlocked g waits u t
 blocked_by g waits x u t w None is r ne ev = absurd (false≢true r)
 blocked_by g waits x u t w (Some d) is r ne ev = record { unit = x; tag = w; delay = d; other = ne; event = ev; least = is; in_time = up_from (plus w d) t (not_false (tag_lt t (plus w d)) r) }
 

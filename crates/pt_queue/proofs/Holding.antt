@@ -6,7 +6,7 @@ use Rattle.pt_tags.specs.declared.tag.Delay.{Delay}
 use Rattle.pt_tags.specs.Tags.{AtMost, Before, UpTo, plus, tag_lt}
 use Rattle.pt_types.specs.declared.firing.Event.{Event}
 use Rattle.pt_types.specs.declared.graph.Graph.{Graph}
-use Rattle.pt_types.specs.declared.graph.Unit.{Unit as Part}
+use Rattle.pt_types.specs.declared.graph.Unit.{Unit}
 use Rattle.pt_types.specs.Lawful.{IsLawful}
 use Rattle.pt_semantics.specs.Edges.{Edge}
 use Rattle.pt_semantics.specs.Lists.{Each}
@@ -30,7 +30,7 @@ not_false : (b : Bool) → not b ≡ true → b ≡ false
 not_false true h = sym h
 not_false false h = refl
 
-other_unit : (x u : Part) → same_part x u ≡ false → x ≢ u
+other_unit : (x u : Unit) → same_part x u ≡ false → x ≢ u
 other_unit x u h e = false≢true (sym h ∙ subst (λ z. same_part x z ≡ true) e (same_part-refl x))
 
 -- what leads there from a later tag along a longer delay leads there
@@ -40,7 +40,7 @@ sooner_still d e v w t a u h = plain d.time d.step e.time e.step v.time v.step w
     plain : (dt ds et es vt vs wt ws tt ts : ℕ) → (dt ≤ et) × (et ≤ dt → ds ≤ es) → (vt ≤ wt) × (wt ≤ vt → vs ≤ ws) → (wt + et ≤ tt) × (tt ≤ wt + et → ws + es ≤ ts) → (nat_lt tt (vt + dt) || ((tt == vt + dt) && nat_lt ts (vs + ds))) ≡ false
     plain dt ds et es vt vs wt ws tt ts a u h = grind arith
 
-reaches_still : (g : Graph) (x u : Part) (o : Option Delay) (d : Delay) (v w t : Tag) → HasLeast g x u o → IsLeast g x u d → UpTo v w → UpTo (plus w d) t → reaches o v t ≡ true
+reaches_still : (g : Graph) (x u : Unit) (o : Option Delay) (d : Delay) (v w t : Tag) → HasLeast g x u o → IsLeast g x u d → UpTo v w → UpTo (plus w d) t → reaches o v t ≡ true
 reaches_still g x u None d v w t has is up h = absurd (has is.along.0 is.along.1)
 reaches_still g x u (Some e) d v w t has is up h =
     let less : AtMost e d = subst (AtMost e) is.along.2 (has.least is.along.0 is.along.1) in
@@ -50,7 +50,7 @@ either : (t w : Tag) → Before t w ⊎ UpTo w t
 either t w = grind arith
 
 -- a path from another unit that comes in time holds up
-in_time : (g : Graph) (waits : Values) (x u : Part) (t w : Tag) (path : List Edge) (o : Option Delay) → HasLeast g x u o → x ≢ u → HasEvent g waits x w → Goes g x path u → UpTo (plus w (sum_along path)) t → IsBlocked g waits u t
+in_time : (g : Graph) (waits : Values) (x u : Unit) (t w : Tag) (path : List Edge) (o : Option Delay) → HasLeast g x u o → x ≢ u → HasEvent g waits x w → Goes g x path u → UpTo (plus w (sum_along path)) t → IsBlocked g waits u t
 in_time g waits x u t w path None has ne ev go up = absurd (has path go)
 in_time g waits x u t w path (Some d) has ne ev go up = record { unit = x; tag = w; delay = d; other = ne; event = ev; least = has; in_time = shorter d (sum_along path) w t (has.least path go) up }
   where
@@ -60,16 +60,16 @@ in_time g waits x u t w path (Some d) has ne ev go up = record { unit = x; tag =
         plain : (dt ds et es wt ws tt ts : ℕ) → (dt ≤ et) × (et ≤ dt → ds ≤ es) → (wt + et ≤ tt) × (tt ≤ wt + et → ws + es ≤ ts) → (wt + dt ≤ tt) × (tt ≤ wt + dt → ws + ds ≤ ts)
         plain dt ds et es wt ws tt ts a h = grind arith
 
-module _ (g : Graph) (table : List Groups) (least : Part → Part → Option Delay) (events : List Event) (tags : List (Option Tag)) (u : Part) (t : Tag)
+module _ (g : Graph) (table : List Groups) (least : Unit → Unit → Option Delay) (events : List Event) (tags : List (Option Tag)) (u : Unit) (t : Tag)
     (lawful : IsLawful g) (groups : AreGroups g table) (placed : Each (IsPlaced table) events) (are : AreTags table events tags) (is : AreLeast g least) (unit : IsUnit g u) where
-  is_unit : (x : Part) (w : Tag) → tag_in tags x ≡ Some w → nat_lt x.group (groups_at table x.actor).count ≡ true → IsUnit g x
+  is_unit : (x : Unit) (w : Tag) → tag_in tags x ≡ Some w → nat_lt x.group (groups_at table x.actor).count ≡ true → IsUnit g x
   is_unit x w m h =
       let e = least_found table events x w (sym (are.least x) ∙ m) in (
-        subst (λ (z : Part). z.actor < length g.actors) e.2 (placed_actor g table e.0 groups (Each-in (IsPlaced table) events placed e.0 e.1)),
+        subst (λ (z : Unit). z.actor < length g.actors) e.2 (placed_actor g table e.0 groups (Each-in (IsPlaced table) events placed e.0 e.1)),
         subst (λ n. x.group < n) (groups.counts x.actor) (ltb-true x.group (groups_at table x.actor).count h),
       )
 
-  held_by : (x : Part) (o : Option Tag) → tag_in tags x ≡ o → tag_holds_up table least u t x o ≡ true → IsBlocked g (waiting_in events) u t
+  held_by : (x : Unit) (o : Option Tag) → tag_in tags x ≡ o → tag_holds_up table least u t x o ≡ true → IsBlocked g (waiting_in events) u t
   held_by x None e h = absurd (false≢true h)
   held_by x (Some w) e h =
       let one = and_parts (not (same_part x u)) (reaches (least x u) w t && nat_lt x.group (groups_at table x.actor).count) h in
@@ -92,11 +92,11 @@ module _ (g : Graph) (table : List Groups) (least : Part → Part → Option Del
           let few : nat_lt k.unit.group (groups_at table k.unit.actor).count ≡ true = lt-ltb k.unit.group (groups_at table k.unit.actor).count (subst (λ n. k.unit.group < n) (sym (groups.counts k.unit.actor)) own.1) in
           and_from (not (same_part k.unit u)) (reaches (least k.unit u) w t && nat_lt k.unit.group (groups_at table k.unit.actor).count) (ap not away) (and_from (reaches (least k.unit u) w t) (nat_lt k.unit.group (groups_at table k.unit.actor).count) reach few)
 
-  pub held_is : (b : Bool) → (b ≡ true → SomeHoldsUp table least u t tags) → (b ≡ false → (x : Part) → unit_holds_up table least u t tags x ≡ false) → (b ≡ true) ↔ IsBlocked g (waiting_in events) u t
+  pub held_is : (b : Bool) → (b ≡ true → SomeHoldsUp table least u t tags) → (b ≡ false → (x : Unit) → unit_holds_up table least u t tags x ≡ false) → (b ≡ true) ↔ IsBlocked g (waiting_in events) u t
   held_is true some none = (λ h. held (some refl), λ k. refl)
   held_is false some none = (λ h. absurd (false≢true h), λ k. let s = holding k in absurd (false≢true (sym (none refl s.0) ∙ s.1)))
 
-  pub free_is : (b : Bool) → (b ≡ true → SomeHoldsUp table least u t tags) → (b ≡ false → (x : Part) → unit_holds_up table least u t tags x ≡ false) → (b ≡ false) ↔ IsClear g (waiting_in events) u t
+  pub free_is : (b : Bool) → (b ≡ true → SomeHoldsUp table least u t tags) → (b ≡ false → (x : Unit) → unit_holds_up table least u t tags x ≡ false) → (b ≡ false) ↔ IsClear g (waiting_in events) u t
   free_is b some none = (
     (λ h x w path ne ev go. ⊎_elim
         (λ (before : Before t (plus w (sum_along path))). before)
@@ -118,7 +118,7 @@ reaches_some None w t h = absurd (false≢true h)
 reaches_some (Some d) w t h = refl
 
 -- a unit that holds up another has a tag, and a path leads from it
-pub holder_has : (table : List Groups) (least : Part → Part → Option Delay) (u : Part) (t : Tag) (x : Part) (o : Option Tag) → tag_holds_up table least u t x o ≡ true → (one_if o ≡ 1) × IsSome (least x u)
+pub holder_has : (table : List Groups) (least : Unit → Unit → Option Delay) (u : Unit) (t : Tag) (x : Unit) (o : Option Tag) → tag_holds_up table least u t x o ≡ true → (one_if o ≡ 1) × IsSome (least x u)
 holder_has table least u t x None h = absurd (false≢true h)
 holder_has table least u t x (Some w) h =
     let one = and_parts (not (same_part x u)) (reaches (least x u) w t && nat_lt x.group (groups_at table x.actor).count) h in

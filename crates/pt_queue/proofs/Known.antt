@@ -5,7 +5,7 @@ use Rattle.std.proofs.lemmas.Bool.{cases_Bool}
 use Rattle.pt_tags.specs.declared.tag.Tag.{Tag}
 use Rattle.pt_types.specs.declared.firing.Event.{Event}
 use Rattle.pt_types.specs.declared.graph.Graph.{Graph}
-use Rattle.pt_types.specs.declared.graph.Unit.{Unit as Part}
+use Rattle.pt_types.specs.declared.graph.Unit.{Unit}
 use Rattle.pt_semantics.specs.Lists.{Each}
 use Rattle.pt_semantics.specs.Units.{HasEvent, same_part}
 use Rattle.pt_semantics.proofs.Lookups.{same_part-true}
@@ -20,11 +20,11 @@ use Rattle.pt_queue.proofs.Found.{least_below, least_found, least_is}
 
 -- the tags are those of the events of a graph's units
 module _ (g : Graph) (table : List Groups) (events : List Event) (tags : List (Option Tag)) (groups : AreGroups g table) (placed : Each (IsPlaced table) events) (are : AreTags table events tags) where
-  pub tag_is : (u : Part) (o : Option Tag) → tag_in tags u ≡ o → IsLeastTag g (waiting_in events) u o
+  pub tag_is : (u : Unit) (o : Option Tag) → tag_in tags u ≡ o → IsLeastTag g (waiting_in events) u o
   tag_is u o e = subst (IsLeastTag g (waiting_in events) u) (sym (are.least u) ∙ e) (least_is g table events u groups placed)
 
   -- a unit with an event has a tag
-  has_tag : (u : Part) (t : Tag) → HasEvent g (waiting_in events) u t → (s : Tag) × (tag_in tags u ≡ Some s)
+  has_tag : (u : Unit) (t : Tag) → HasEvent g (waiting_in events) u t → (s : Tag) × (tag_in tags u ≡ Some s)
   has_tag u t event = by (tag_in tags u) refl
     where
       by : (o : Option Tag) → tag_in tags u ≡ o → (s : Tag) × (tag_in tags u ≡ Some s)
@@ -36,13 +36,13 @@ module _ (g : Graph) (table : List Groups) (events : List Event) (tags : List (O
   first_is n (Some w) first = (tag_is w.unit (Some w.tag) first.0, first.1, λ u t event. let tag = has_tag u t event in (has_place tags u tag.0 tag.1, first.2 u tag.0 tag.1))
 
   -- no event of a word is before a time that no tag is before
-  pub floor_is : (word time : ℕ) → ((u : Part) (t : Tag) → tag_in tags u ≡ Some t → unit_place u / 64 ≡ word → time ≤ t.time) → (u : Part) (t : Tag) → HasEvent g (waiting_in events) u t → unit_place u / 64 ≡ word → time ≤ t.time
+  pub floor_is : (word time : ℕ) → ((u : Unit) (t : Tag) → tag_in tags u ≡ Some t → unit_place u / 64 ≡ word → time ≤ t.time) → (u : Unit) (t : Tag) → HasEvent g (waiting_in events) u t → unit_place u / 64 ≡ word → time ≤ t.time
   floor_is word time below u t event at =
       let tag = has_tag u t event in
       let first = (tag_is u (Some tag.0) tag.1).1 t event in
       omega (arith, below u tag.0 tag.1 at, first.0)
 
-  pub only_is : (u : Part) → IsOnlyTag tags u → IsOnlyUnit g (waiting_in events) u
+  pub only_is : (u : Unit) → IsOnlyTag tags u → IsOnlyUnit g (waiting_in events) u
   only_is u only x t event = let tag = has_tag x t event in only x tag.0 tag.1
 
 -- the unit of an event has its place
@@ -52,7 +52,7 @@ unit_fits table e n few room placed = let a : e.actor < length table = placed.ac
 
 -- the tags after the events changed
 
-pub tags_more : (table : List Groups) (events new : List Event) (tags vs : List (Option Tag)) (e : Event) (unit : Part) → AreTags table events tags → unit ≡ unit_in table e → ((x : Part) → tag_in vs x ≡ (if same_part unit x then sooner (tag_in tags unit) e.tag else tag_in tags x)) → length vs ≡ length tags → ((u : Part) → least_from table u None new ≡ sooner_if (is_of table u e) (least_from table u None events) e.tag) → AreTags table new vs
+pub tags_more : (table : List Groups) (events new : List Event) (tags vs : List (Option Tag)) (e : Event) (unit : Unit) → AreTags table events tags → unit ≡ unit_in table e → ((x : Unit) → tag_in vs x ≡ (if same_part unit x then sooner (tag_in tags unit) e.tag else tag_in tags x)) → length vs ≡ length tags → ((u : Unit) → least_from table u None new ≡ sooner_if (is_of table u e) (least_from table u None events) e.tag) → AreTags table new vs
 tags_more table events new tags vs e unit are is changed len least = record {
   room = len ∙ are.room;
   few = are.few;
@@ -69,7 +69,7 @@ tags_more table events new tags vs e unit are is changed len least = record {
       (cases_Bool (same_part unit u));
 }
 
-pub tags_less : (table : List Groups) (events new : List Event) (tags vs : List (Option Tag)) (unit : Part) (o : Option Tag) → AreTags table events tags → o ≡ least_from table unit None new → ((x : Part) → tag_in vs x ≡ (if same_part unit x then o else tag_in tags x)) → length vs ≡ length tags → ((u : Part) → same_part unit u ≡ false → least_from table u None new ≡ least_from table u None events) → AreTags table new vs
+pub tags_less : (table : List Groups) (events new : List Event) (tags vs : List (Option Tag)) (unit : Unit) (o : Option Tag) → AreTags table events tags → o ≡ least_from table unit None new → ((x : Unit) → tag_in vs x ≡ (if same_part unit x then o else tag_in tags x)) → length vs ≡ length tags → ((u : Unit) → same_part unit u ≡ false → least_from table u None new ≡ least_from table u None events) → AreTags table new vs
 tags_less table events new tags vs unit o are is changed len least = record {
   room = len ∙ are.room;
   few = are.few;

@@ -5,7 +5,7 @@ use Rattle.std.proofs.lemmas.Bool.{false≢true}
 use Rattle.pt_tags.specs.declared.tag.Tag.{Tag}
 use Rattle.pt_tags.specs.Tags.{same_tag}
 use Rattle.pt_types.specs.declared.firing.Event.{Event}
-use Rattle.pt_types.specs.declared.graph.Unit.{Unit as Part}
+use Rattle.pt_types.specs.declared.graph.Unit.{Unit}
 use Rattle.pt_types.specs.Ports.{when}
 use Rattle.pt_semantics.specs.Lists.{Each, or_else}
 use Rattle.pt_semantics.proofs.Lookups.{when_none}
@@ -32,7 +32,7 @@ none_waits a p t (x ∷ xs) h =
     ap (λ b. or_else (when (b && x.port == p && same_tag x.tag t) (Some x.value)) (waiting_in xs a p t)) parts.0 ∙ none_waits a p t xs parts.1
 
 -- nor for its units
-pub none_for : (table : List Groups) (u : Part) (xs : List Event) → list_any (is_for u.actor) xs ≡ false → Each (λ (e : Event). is_of table u e ≡ false) xs
+pub none_for : (table : List Groups) (u : Unit) (xs : List Event) → list_any (is_for u.actor) xs ≡ false → Each (λ (e : Event). is_of table u e ≡ false) xs
 none_for table u [] h = tt
 none_for table u (x ∷ xs) h =
     let parts = neither (is_for u.actor x) (list_any (is_for u.actor) xs) h in

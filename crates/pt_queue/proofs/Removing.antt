@@ -4,7 +4,7 @@ use Rattle.std.proofs.lemmas.List.{get_or-set_same, get_or-set_other, get_or_pas
 use Rattle.pt_tags.specs.declared.tag.Tag.{Tag}
 use Rattle.pt_tags.specs.Tags.{same_tag}
 use Rattle.pt_types.specs.declared.firing.Event.{Event}
-use Rattle.pt_types.specs.declared.graph.Unit.{Unit as Part}
+use Rattle.pt_types.specs.declared.graph.Unit.{Unit}
 use Rattle.pt_semantics.specs.Lists.{Each}
 use Rattle.pt_queue.specs.declared.groups.Groups.{Groups}
 use Rattle.pt_queue.specs.Groups.{group_in}
@@ -35,24 +35,24 @@ each_map P Q [] f h = tt
 each_map P Q (x ∷ xs) f h = (f x h.0, each_map P Q xs f h.1)
 
 -- in a line of the unit the tag decides
-pub unit_line : (table : List Groups) (u : Part) (p : ℕ) (t : Tag) (line : List Event) → p < 8 → Each (IsInLine table (8 * u.actor + p)) line → (group_in table u.actor p == u.group) ≡ true → filter (λ (e : Event). not (same_tag t e.tag)) line ≡ filter (λ (e : Event). not (is_at table u t e)) line
+pub unit_line : (table : List Groups) (u : Unit) (p : ℕ) (t : Tag) (line : List Event) → p < 8 → Each (IsInLine table (8 * u.actor + p)) line → (group_in table u.actor p == u.group) ≡ true → filter (λ (e : Event). not (same_tag t e.tag)) line ≡ filter (λ (e : Event). not (is_at table u t e)) line
 unit_line table u p t line l h eq = filter_alike (λ (e : Event). not (same_tag t e.tag)) (λ (e : Event). not (is_at table u t e)) line
     (each_map (IsInLine table (8 * u.actor + p)) (λ (e : Event). not (same_tag t e.tag) ≡ not (is_at table u t e)) line (λ e k. ap (λ b. not (b && same_tag t e.tag)) (sym (of_line table u p e l k ∙ eq))) h)
 
-stays : (table : List Groups) (u : Part) (t : Tag) (e : Event) → is_of table u e ≡ false → not (is_at table u t e) ≡ true
+stays : (table : List Groups) (u : Unit) (t : Tag) (e : Event) → is_of table u e ≡ false → not (is_at table u t e) ≡ true
 stays table u t e h = ap (λ b. not (b && same_tag t e.tag)) h
 
 -- no event is removed where none waits for the unit
-pub none_at : (table : List Groups) (u : Part) (t : Tag) (xs : List Event) → Each (λ (e : Event). is_of table u e ≡ false) xs → filter (λ (e : Event). not (is_at table u t e)) xs ≡ xs
+pub none_at : (table : List Groups) (u : Unit) (t : Tag) (xs : List Event) → Each (λ (e : Event). is_of table u e ≡ false) xs → filter (λ (e : Event). not (is_at table u t e)) xs ≡ xs
 none_at table u t xs h = filter_all (λ (e : Event). not (is_at table u t e)) xs
     (each_map (λ (e : Event). is_of table u e ≡ false) (λ (e : Event). not (is_at table u t e) ≡ true) xs (λ e k. stays table u t e k) h)
 
 -- a line of another unit stays
-pub other_line : (table : List Groups) (u : Part) (p : ℕ) (t : Tag) (line : List Event) → p < 8 → Each (IsInLine table (8 * u.actor + p)) line → (group_in table u.actor p == u.group) ≡ false → filter (λ (e : Event). not (is_at table u t e)) line ≡ line
+pub other_line : (table : List Groups) (u : Unit) (p : ℕ) (t : Tag) (line : List Event) → p < 8 → Each (IsInLine table (8 * u.actor + p)) line → (group_in table u.actor p == u.group) ≡ false → filter (λ (e : Event). not (is_at table u t e)) line ≡ line
 other_line table u p t line l h ne = filter_all (λ (e : Event). not (is_at table u t e)) line
     (each_map (IsInLine table (8 * u.actor + p)) (λ (e : Event). not (is_at table u t e) ≡ true) line (λ e k. stays table u t e (of_line table u p e l k ∙ ne)) h)
 
-other_actor : (table : List Groups) (u : Part) (n : ℕ) (t : Tag) (line : List Event) → Each (IsInLine table n) line → (n < 8 * u.actor) ⊎ (8 * u.actor + 8 ≤ n) → filter (λ (e : Event). not (is_at table u t e)) line ≡ line
+other_actor : (table : List Groups) (u : Unit) (n : ℕ) (t : Tag) (line : List Event) → Each (IsInLine table n) line → (n < 8 * u.actor) ⊎ (8 * u.actor + 8 ≤ n) → filter (λ (e : Event). not (is_at table u t e)) line ≡ line
 other_actor table u n t line h away = filter_all (λ (e : Event). not (is_at table u t e)) line
     (each_map (IsInLine table n) (λ (e : Event). not (is_at table u t e) ≡ true) line (λ e k. stays table u t e (other_unit table u n e k away)) h)
 
@@ -123,7 +123,7 @@ map_fixed f [] h = refl
 map_fixed f (line ∷ lines) h = ap₂ (λ x xs. x ∷ xs) (h 0) (map_fixed f lines (λ n. h (suc n)))
 
 -- all ports are done
-pub all_done : (table : List Groups) (u : Part) (t : Tag) (lines : List (List Event)) → AreInLines table lines → ((k : ℕ) → k < 8 → filter (λ (e : Event). not (is_at table u t e)) (line_at lines (8 * u.actor + k)) ≡ line_at lines (8 * u.actor + k)) → map (filter (λ (e : Event). not (is_at table u t e))) lines ≡ lines
+pub all_done : (table : List Groups) (u : Unit) (t : Tag) (lines : List (List Event)) → AreInLines table lines → ((k : ℕ) → k < 8 → filter (λ (e : Event). not (is_at table u t e)) (line_at lines (8 * u.actor + k)) ≡ line_at lines (8 * u.actor + k)) → map (filter (λ (e : Event). not (is_at table u t e))) lines ≡ lines
 all_done table u t lines h done = map_fixed (λ (e : Event). not (is_at table u t e)) lines (λ n. ⊎_elim
     (λ (l : n < 8 * u.actor). other_actor table u n t (line_at lines n) (h n) (inl l))
     (λ (m : 8 * u.actor ≤ n). ⊎_elim

@@ -2,7 +2,7 @@
 use Rattle.std.proofs.Common.{◌≡◌, ℕ, ◌+◌, ◌*◌, ◌/◌, ◌%◌, ◌<◌, ◌≤◌, ◌⊎◌, List, Option, Some, None, length, sym, ap, ◌∙◌, inl, inr, ⊎_elim, arith}
 use Rattle.std.proofs.lemmas.List.{get_or_past}
 use Rattle.pt_tags.specs.declared.tag.Tag.{Tag}
-use Rattle.pt_types.specs.declared.graph.Unit.{Unit as Part}
+use Rattle.pt_types.specs.declared.graph.Unit.{Unit}
 use Rattle.pt_causality.specs.Before.{bit_of}
 use Rattle.pt_queue.specs.declared.waiting.Waiting.{Waiting}
 use Rattle.pt_queue.specs.Tagged.{IsFirstTag, IsOnlyTag, tag_in}
@@ -14,7 +14,7 @@ below_or n m = grind arith
 
 module _ (tags : List (Option Tag)) (marks : List ℕ) (are : AreMarks tags marks) where
   -- the bit of a unit with a tag is set
-  tagged : (u : Part) (t : Tag) → tag_in tags u ≡ Some t → bit_of marks (8 * u.actor + u.group) ≡ 1
+  tagged : (u : Unit) (t : Tag) → tag_in tags u ≡ Some t → bit_of marks (8 * u.actor + u.group) ≡ 1
   tagged u t e = are (8 * u.actor + u.group) ∙ ap one_if (sym (in_place tags u (has_place tags u t e)) ∙ e)
 
   pub place_few : (p : ℕ) → bit_of marks p ≡ 1 → p < length tags
@@ -32,8 +32,8 @@ module _ (tags : List (Option Tag)) (marks : List ℕ) (are : AreMarks tags mark
   pub first_some : (n p : ℕ) (o : Option Waiting) → IsFirstMark marks n (Some p) → IsWaitingAt tags p o → IsFirstTag tags n o
   first_some n p None first is = let one : bit_of marks p ≡ 1 = first.1 in let none : bit_of marks p ≡ 0 = are p ∙ ap one_if is in absurd (omega (arith, none, one))
   first_some n p (Some w) first is =
-      let actor : w.unit.actor ≡ p / 8 = ap (λ (x : Part). x.actor) is.0 in
-      let group : w.unit.group ≡ p % 8 = ap (λ (x : Part). x.group) is.0 in
+      let actor : w.unit.actor ≡ p / 8 = ap (λ (x : Unit). x.actor) is.0 in
+      let group : w.unit.group ≡ p % 8 = ap (λ (x : Unit). x.group) is.0 in
       let here : 8 * w.unit.actor + w.unit.group ≡ p = omega (arith, actor, group) in
       let le : n ≤ p = first.0 in (
         ap (tag_in tags) is.0 ∙ tag_with tags p ∙ is.1,
@@ -47,5 +47,5 @@ module _ (tags : List (Option Tag)) (marks : List ℕ) (are : AreMarks tags mark
             (below_or (8 * u.actor + u.group) n),
       )
 
-  pub only_tagged : (u : Part) → u.group < 8 → ((n : ℕ) → bit_of marks n ≡ 1 → n ≡ 8 * u.actor + u.group) → IsOnlyTag tags u
+  pub only_tagged : (u : Unit) → u.group < 8 → ((n : ℕ) → bit_of marks n ≡ 1 → n ≡ 8 * u.actor + u.group) → IsOnlyTag tags u
   only_tagged u few only x t e = sym (with_place x (has_place tags x t e)) ∙ ap unit_with (only (8 * x.actor + x.group) (tagged x t e)) ∙ with_place u few

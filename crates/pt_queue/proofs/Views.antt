@@ -3,7 +3,7 @@ use Rattle.std.proofs.Common.{◌≡◌, ℕ, zero, suc, ◌==◌, not, List, []
 use Rattle.pt_tags.specs.declared.tag.Tag.{Tag}
 use Rattle.pt_types.specs.declared.firing.Event.{Event}
 use Rattle.pt_types.specs.declared.graph.Graph.{Graph}
-use Rattle.pt_types.specs.declared.graph.Unit.{Unit as Part}
+use Rattle.pt_types.specs.declared.graph.Unit.{Unit}
 use Rattle.pt_types.specs.Ports.{when, eight}
 use Rattle.pt_types.specs.Lookups.{kind_of}
 use Rattle.pt_semantics.specs.Units.{unit_inputs}
@@ -32,7 +32,7 @@ pub view_waits : (table : List Groups) (lines : List (List Event)) (loose events
 view_waits table lines loose events k is = ap waiting_in (sym is) ∙ all_wait table lines loose k
 
 -- after the events of a unit at a tag were removed
-pub removed_waits : (g : Graph) (table : List Groups) (u : Part) (t : Tag) (lines : List (List Event)) (loose : List Event) → AreGroups g table → AreKept table lines loose →
+pub removed_waits : (g : Graph) (table : List Groups) (u : Unit) (t : Tag) (lines : List (List Event)) (loose : List Event) → AreGroups g table → AreKept table lines loose →
     waiting_in (all_of (with_events (map (filter (λ (e : Event). not (is_at table u t e))) lines) (filter (λ (e : Event). not (is_at table u t e)) loose))) ≡ without_unit g (waiting_in (all_of (with_events lines loose))) u t
 removed_waits g table u t lines loose are k =
     all_wait table (map (filter (λ (e : Event). not (is_at table u t e))) lines) (filter (λ (e : Event). not (is_at table u t e)) loose) (filtered_kept table (λ (e : Event). not (is_at table u t e)) lines loose k)
@@ -46,5 +46,5 @@ none_in zero = refl
 none_in (suc n) = none_in n
 
 -- the inputs of a unit, by the table
-pub inputs_whole : (g : Graph) (table : List Groups) (u : Part) (t : Tag) (w : Values) → AreGroups g table → eight (λ p. when (group_in table u.actor p == u.group) (w u.actor p t)) ≡ unit_inputs g w u t
+pub inputs_whole : (g : Graph) (table : List Groups) (u : Unit) (t : Tag) (w : Values) → AreGroups g table → eight (λ p. when (group_in table u.actor p == u.group) (w u.actor p t)) ≡ unit_inputs g w u t
 inputs_whole g table u t w are = eight_below (λ p. when (group_in table u.actor p == u.group) (w u.actor p t)) (λ p. when (input_group (kind_of g u.actor) p == u.group) (w u.actor p t)) (λ p l. ap (λ n. when (n == u.group) (w u.actor p t)) (are.inputs u.actor p l))

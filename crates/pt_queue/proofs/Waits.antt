@@ -5,7 +5,7 @@ use Rattle.pt_tags.specs.declared.tag.Tag.{Tag}
 use Rattle.pt_tags.specs.Tags.{same_tag}
 use Rattle.pt_types.specs.declared.firing.Event.{Event}
 use Rattle.pt_types.specs.declared.graph.Graph.{Graph}
-use Rattle.pt_types.specs.declared.graph.Unit.{Unit as Part}
+use Rattle.pt_types.specs.declared.graph.Unit.{Unit}
 use Rattle.pt_types.specs.Ports.{when}
 use Rattle.pt_semantics.specs.Lists.{or_else, Each}
 use Rattle.pt_semantics.specs.Units.{at_input, same_part}
@@ -25,7 +25,7 @@ pub unit_at : (g : Graph) (table : List Groups) (e : Event) → AreGroups g tabl
 unit_at g table e are placed = λ i. record { actor = e.actor; group = sym (are.inputs e.actor e.port placed.port) i }
 
 -- the test that keeps a port's values, against the test that keeps an event
-keeps : (g : Graph) (table : List Groups) (u : Part) (t : Tag) (e : Event) (b p : ℕ) (w : Tag) → AreGroups g table → IsPlaced table e → when (not (same_part (at_input g b p) u && same_tag t w)) (value_in e b p w) ≡ when (not (is_at table u t e)) (value_in e b p w)
+keeps : (g : Graph) (table : List Groups) (u : Unit) (t : Tag) (e : Event) (b p : ℕ) (w : Tag) → AreGroups g table → IsPlaced table e → when (not (same_part (at_input g b p) u && same_tag t w)) (value_in e b p w) ≡ when (not (is_at table u t e)) (value_in e b p w)
 keeps g table u t e b p w are placed =
     ⊎_elim
     (λ (here : (e.actor == b && e.port == p && same_tag e.tag w) ≡ true).
@@ -45,12 +45,12 @@ one : (e : Event) (ys : List Event) (c : Bool) (b p : ℕ) (w : Tag) → waiting
 one e ys true b p w = refl
 one e ys false b p w = refl
 
-at_drop : (g : Graph) (table : List Groups) (u : Part) (t : Tag) (ys : List Event) (b p : ℕ) (w : Tag) → AreGroups g table → Each (IsPlaced table) ys → waiting_in (filter (λ (e : Event). not (is_at table u t e)) ys) b p w ≡ without_unit g (waiting_in ys) u t b p w
+at_drop : (g : Graph) (table : List Groups) (u : Unit) (t : Tag) (ys : List Event) (b p : ℕ) (w : Tag) → AreGroups g table → Each (IsPlaced table) ys → waiting_in (filter (λ (e : Event). not (is_at table u t e)) ys) b p w ≡ without_unit g (waiting_in ys) u t b p w
 at_drop g table u t [] b p w are placed = sym (when_none ℤ (not (same_part (at_input g b p) u && same_tag t w)))
 at_drop g table u t (e ∷ ys) b p w are placed =
     one e (filter (λ (y : Event). not (is_at table u t y)) ys) (not (is_at table u t e)) b p w
     ∙ ap₂ or_else (sym (keeps g table u t e b p w are placed.0)) (at_drop g table u t ys b p w are placed.1)
     ∙ sym (when_or_else (not (same_part (at_input g b p) u && same_tag t w)) (value_in e b p w) (waiting_in ys b p w))
 
-pub waiting_drop : (g : Graph) (table : List Groups) (u : Part) (t : Tag) (xs : List Event) → AreGroups g table → Each (IsPlaced table) xs → waiting_in (filter (λ (e : Event). not (is_at table u t e)) xs) ≡ without_unit g (waiting_in xs) u t
+pub waiting_drop : (g : Graph) (table : List Groups) (u : Unit) (t : Tag) (xs : List Event) → AreGroups g table → Each (IsPlaced table) xs → waiting_in (filter (λ (e : Event). not (is_at table u t e)) xs) ≡ without_unit g (waiting_in xs) u t
 waiting_drop g table u t xs are placed = λ i b p w. at_drop g table u t xs b p w are placed i

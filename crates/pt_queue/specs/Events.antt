@@ -4,7 +4,7 @@ use Rattle.pt_tags.specs.declared.tag.Tag.{Tag}
 use Rattle.pt_tags.specs.declared.tag.Delay.{Delay}
 use Rattle.pt_tags.specs.Tags.{same_tag, UpTo, Before, plus}
 use Rattle.pt_types.specs.declared.firing.Event.{Event}
-use Rattle.pt_types.specs.declared.graph.Unit.{Unit as Part}
+use Rattle.pt_types.specs.declared.graph.Unit.{Unit}
 use Rattle.pt_types.specs.declared.graph.Graph.{Graph}
 use Rattle.pt_types.specs.Ports.{when}
 use Rattle.pt_semantics.specs.Lists.{first_of}
@@ -36,30 +36,30 @@ pub record IsPlaced (table : List Groups) (e : Event) : Type 0 where
   pub port : e.port < 8
 
 -- t is the least tag at which a unit has an event; or, for None, the unit has no event
-abbrev pub IsLeastTag : Graph → Values → Part → Option Tag → Type 0
+abbrev pub IsLeastTag : Graph → Values → Unit → Option Tag → Type 0
 IsLeastTag g waits u None = (t : Tag) → HasEvent g waits u t → ⊥
 IsLeastTag g waits u (Some t) = HasEvent g waits u t × ((w : Tag) → HasEvent g waits u w → UpTo t w)
 
 -- the place of a unit, eight for each actor
-abbrev pub unit_place : Part → ℕ
+abbrev pub unit_place : Unit → ℕ
 unit_place u = 8 * u.actor + u.group
 
 -- w is the first unit with events whose place isn't before n, with its least tag; or, for None, no unit with such a place has events; in both cases each unit with events has its group below 8
 abbrev pub IsFirstWaiting : Graph → Values → ℕ → Option Waiting → Type 0
-IsFirstWaiting g waits n None = (u : Part) (t : Tag) → HasEvent g waits u t → (u.group < 8) × (unit_place u < n)
-IsFirstWaiting g waits n (Some w) = IsLeastTag g waits w.unit (Some w.tag) × (n ≤ unit_place w.unit) × ((u : Part) (t : Tag) → HasEvent g waits u t → (u.group < 8) × ((unit_place u < n) ⊎ (unit_place w.unit ≤ unit_place u)))
+IsFirstWaiting g waits n None = (u : Unit) (t : Tag) → HasEvent g waits u t → (u.group < 8) × (unit_place u < n)
+IsFirstWaiting g waits n (Some w) = IsLeastTag g waits w.unit (Some w.tag) × (n ≤ unit_place w.unit) × ((u : Unit) (t : Tag) → HasEvent g waits u t → (u.group < 8) × ((unit_place u < n) ⊎ (unit_place w.unit ≤ unit_place u)))
 
 -- no unit but u has events
-abbrev pub IsOnlyUnit : Graph → Values → Part → Type 0
-IsOnlyUnit g waits u = (x : Part) (t : Tag) → HasEvent g waits x t → x ≡ u
+abbrev pub IsOnlyUnit : Graph → Values → Unit → Type 0
+IsOnlyUnit g waits u = (x : Unit) (t : Tag) → HasEvent g waits x t → x ≡ u
 
 -- no event that waits for another unit leads to unit u at t or before
-abbrev pub IsClear : Graph → Values → Part → Tag → Type 0
-IsClear g waits u t = (x : Part) (w : Tag) (path : List Edge) → x ≢ u → HasEvent g waits x w → Goes g x path u → Before t (plus w (sum_along path))
+abbrev pub IsClear : Graph → Values → Unit → Tag → Type 0
+IsClear g waits u t = (x : Unit) (w : Tag) (path : List Edge) → x ≢ u → HasEvent g waits x w → Goes g x path u → Before t (plus w (sum_along path))
 
 -- an event that waits for another unit leads to unit u at t or before: its tag plus the least delay from there is at most t
-pub record IsBlocked (g : Graph) (waits : Values) (u : Part) (t : Tag) : Type 0 where
-  pub unit : Part
+pub record IsBlocked (g : Graph) (waits : Values) (u : Unit) (t : Tag) : Type 0 where
+  pub unit : Unit
   pub tag : Tag
   pub delay : Delay
   pub other : unit ≢ u

@@ -3,7 +3,7 @@ use Rattle.std.specs.Prelude.{◌≡◌, ℕ, ◌+◌, ◌*◌, ◌/◌, ◌%◌
 use Rattle.std.specs.Int.{bit_at}
 use Rattle.pt_tags.specs.declared.tag.Tag.{Tag}
 use Rattle.pt_tags.specs.declared.tag.Delay.{Delay}
-use Rattle.pt_types.specs.declared.graph.Unit.{Unit as Part}
+use Rattle.pt_types.specs.declared.graph.Unit.{Unit}
 use Rattle.pt_causality.specs.Before.{bit_of}
 use Rattle.pt_queue.specs.declared.groups.Groups.{Groups}
 use Rattle.pt_queue.specs.declared.waiting.Waiting.{Waiting}
@@ -33,7 +33,7 @@ abbrev pub AreSummed : List ℕ → ℕ → Type 0
 AreSummed words summary = (n : ℕ) → bit_of words n ≡ 1 → bit_at summary (n / 128) ≡ 1
 
 -- the unit with place n
-abbrev pub unit_with : ℕ → Part
+abbrev pub unit_with : ℕ → Unit
 unit_with n = record { actor = n / 8; group = n % 8 }
 
 -- the unit with place n, with its tag; or, for None, it has no tag
@@ -57,16 +57,16 @@ pub record AreMarked (tags : List (Option Tag)) (marks : List ℕ) : Type 0 wher
   pub few : length tags ≤ most_places
 
 -- h is a unit that holds up u; or, for None, none does
-abbrev pub IsHolder : List Groups → (Part → Part → Option Delay) → Part → Tag → List (Option Tag) → Option Part → Type 0
-IsHolder table least u t tags None = (x : Part) → unit_holds_up table least u t tags x ≡ false
+abbrev pub IsHolder : List Groups → (Unit → Unit → Option Delay) → Unit → Tag → List (Option Tag) → Option Unit → Type 0
+IsHolder table least u t tags None = (x : Unit) → unit_holds_up table least u t tags x ≡ false
 IsHolder table least u t tags (Some h) = unit_holds_up table least u t tags h ≡ true
 
 -- h is a unit that holds up u; or, for None, no unit with a place in this word and a bit there does
-abbrev pub IsHolderIn : List Groups → (Part → Part → Option Delay) → Part → Tag → List (Option Tag) → ℕ → ℕ → Option Part → Type 0
+abbrev pub IsHolderIn : List Groups → (Unit → Unit → Option Delay) → Unit → Tag → List (Option Tag) → ℕ → ℕ → Option Unit → Type 0
 IsHolderIn table least u t tags index word None = (i : ℕ) → i < 64 → bit_at word i ≡ 1 → unit_holds_up table least u t tags (unit_with (64 * index + i)) ≡ false
 IsHolderIn table least u t tags index word (Some h) = unit_holds_up table least u t tags h ≡ true
 
 -- h is a unit that holds up u; or, for None, no unit with a place in the words from number start up to number end, without that, does
-abbrev pub IsHolderAmong : List Groups → (Part → Part → Option Delay) → Part → Tag → List (Option Tag) → ℕ → ℕ → Option Part → Type 0
+abbrev pub IsHolderAmong : List Groups → (Unit → Unit → Option Delay) → Unit → Tag → List (Option Tag) → ℕ → ℕ → Option Unit → Type 0
 IsHolderAmong table least u t tags start end None = (n : ℕ) → 64 * start ≤ n → n < 64 * end → unit_holds_up table least u t tags (unit_with n) ≡ false
 IsHolderAmong table least u t tags start end (Some h) = unit_holds_up table least u t tags h ≡ true

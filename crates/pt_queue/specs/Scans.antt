@@ -4,13 +4,13 @@ use Rattle.pt_tags.specs.declared.tag.Tag.{Tag}
 use Rattle.pt_tags.specs.declared.tag.Delay.{Delay}
 use Rattle.pt_tags.specs.Tags.{same_tag, tag_lt, plus}
 use Rattle.pt_types.specs.declared.firing.Event.{Event}
-use Rattle.pt_types.specs.declared.graph.Unit.{Unit as Part}
+use Rattle.pt_types.specs.declared.graph.Unit.{Unit}
 use Rattle.pt_semantics.specs.Units.{same_part}
 use Rattle.pt_queue.specs.declared.groups.Groups.{Groups}
 use Rattle.pt_queue.specs.Groups.{group_in}
 
 -- the unit that an event waits for
-abbrev pub unit_in : List Groups → Event → Part
+abbrev pub unit_in : List Groups → Event → Unit
 unit_in table e = record { actor = e.actor; group = group_in table e.actor e.port }
 
 -- an event waits at an input of this actor
@@ -18,11 +18,11 @@ abbrev pub is_for : ℕ → Event → Bool
 is_for a e = e.actor == a
 
 -- an event waits for this unit
-abbrev pub is_of : List Groups → Part → Event → Bool
+abbrev pub is_of : List Groups → Unit → Event → Bool
 is_of table u e = same_part (unit_in table e) u
 
 -- an event waits for this unit at this tag
-abbrev pub is_at : List Groups → Part → Tag → Event → Bool
+abbrev pub is_at : List Groups → Unit → Tag → Event → Bool
 is_at table u t e = is_of table u e && same_tag t e.tag
 
 -- the lesser of the least tag so far and another tag
@@ -40,7 +40,7 @@ abbrev pub sooner_if : Bool → Option Tag → Tag → Option Tag
 sooner_if b best t = if b then sooner best t else best
 
 -- the least of the tag so far and the tags of the unit's events
-abbrev pub least_from : List Groups → Part → Option Tag → List Event → Option Tag
+abbrev pub least_from : List Groups → Unit → Option Tag → List Event → Option Tag
 least_from table u best [] = best
 least_from table u best (e ∷ events) = least_from table u (sooner_if (is_of table u e) best e.tag) events
 

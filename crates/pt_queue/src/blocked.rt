@@ -3,7 +3,7 @@
 ghost use Rattle.std.specs.Prelude.{◌≡◌, ◌≢◌, ◌+◌, ◌*◌, ◌/◌, ◌%◌, ◌<◌, ◌≤◌, ℕ, true, false, length, slice_index_or};
 ghost use Rattle.std.specs.Int.{bit_at};
 ghost use Rattle.std.specs.Int.RustNames.{bit_and};
-ghost use Rattle.pt_types.specs.declared.graph.Unit.{Unit as Part};
+ghost use Rattle.pt_types.specs.declared.graph.Unit.{Unit};
 ghost use Rattle.pt_causality.specs.Before.{MayHave};
 ghost use Rattle.pt_causality.specs.Delays.{HasAllBefore, least_of};
 ghost use Rattle.pt_queue.specs.Events.{unit_place};
@@ -101,7 +101,7 @@ pub fn holder_in_word(
 
 /// A word of `before`; all bits are set in a word past its end, since of the units there nothing is known.
 pub fn word_before(before: &[u64], index: usize) -> u64
-    ensures { (x : Part) → MayHave before.now x → x.group < 8 → unit_place x / 64 ≡ index → bit_at result (unit_place x % 64) ≡ 1 }
+    ensures { (x : Unit) → MayHave before.now x → x.group < 8 → unit_place x / 64 ≡ index → bit_at result (unit_place x % 64) ≡ 1 }
 {
     match before.get(index) {
         None => u64::MAX,
@@ -345,7 +345,7 @@ pub fn is_blocked(
     least: &Least,
 ) -> bool
     ensures held { result ≡ true → SomeHoldsUp table.now (least_of least.now) unit tag tags.now }
-    ensures free { result ≡ false → (x : Part) → unit_holds_up table.now (least_of least.now) unit tag tags.now x ≡ false }
+    ensures free { result ≡ false → (x : Unit) → unit_holds_up table.now (least_of least.now) unit tag tags.now x ≡ false }
 {
     if are_few_words(tags) {
         return is_held_in_few(table, tags, unit, tag, least);

@@ -2,7 +2,7 @@
 
 ghost use Rattle.std.specs.Prelude.{◌≡◌, ◌≢◌, ◌+◌, ◌*◌, ◌<◌, ◌≤◌, ℕ, true, false};
 ghost use Rattle.std.specs.Int.{bit_at};
-ghost use Rattle.pt_types.specs.declared.graph.Unit.{Unit as Part};
+ghost use Rattle.pt_types.specs.declared.graph.Unit.{Unit};
 ghost use Rattle.pt_causality.specs.Delays.{HasAllBefore, least_of};
 ghost use Rattle.pt_queue.specs.Tagged.{SomeHoldsUp, unit_holds_up};
 ghost use Rattle.pt_queue.specs.Marks.{IsHolder, IsHolderIn, most_places, unit_with};
@@ -92,7 +92,7 @@ pub fn is_held_in_few(
     least: &Least,
 ) -> bool
     ensures held { result ≡ true → SomeHoldsUp table.now (least_of least.now) unit tag tags.now }
-    ensures free { result ≡ false → (x : Part) → unit_holds_up table.now (least_of least.now) unit tag tags.now x ≡ false }
+    ensures free { result ≡ false → (x : Unit) → unit_holds_up table.now (least_of least.now) unit tag tags.now x ≡ false }
 {
     let holder = match least.before(unit) {
         None => holder_in_few(table, tags, unit, tag, least, &[]),

@@ -2,7 +2,7 @@
 
 ghost use Rattle.std.specs.Prelude.{◌≡◌, ◌+◌, ◌*◌, ◌/◌, ◌<◌, ◌≤◌, ℕ, IfOk, IsSome, None, Some, true, false, length, replicate, slice_index_or, slice_set, if◌then◌else◌};
 ghost use Rattle.pt_tags.specs.declared.tag.Tag.{Tag};
-ghost use Rattle.pt_types.specs.declared.graph.Unit.{Unit as Part};
+ghost use Rattle.pt_types.specs.declared.graph.Unit.{Unit};
 ghost use Rattle.pt_semantics.specs.Units.{same_part};
 ghost use Rattle.pt_queue.specs.Events.{unit_place};
 ghost use Rattle.pt_queue.specs.Tagged.{FitsIn, IsFirstTag, IsOnlyTag, tag_in};
@@ -12,7 +12,7 @@ ghost use Rattle.pt_queue.specs.Scans.{sooner};
 use crate::marks::{Span, first_from, is_only, span_of, without_word, word_at};
 use crate::waiting::Waiting;
 use pt_causality::{clear_bit, set_bit};
-use pt_tags::{Memory, Tag};
+use pt_tags::{Memory, Tag, Time};
 use pt_types::Unit;
 use std::alloc::{AllocError, Global};
 use std::marker::Model;
@@ -62,7 +62,7 @@ fn is_least(so_far: Option<Tag>, tag: Tag) -> bool
 
 /// Lowers the time of a word to this one, if it is greater.
 #[inline(always)]
-fn lower_time(times: &mut Vec<u64>, index: usize, time: u64)
+fn lower_time(times: &mut Vec<u64>, index: usize, time: Time)
     requires { index < length times.old.items }
     ensures here { slice_index_or times.new.items index 0 ≤ time }
     ensures all { (n : ℕ) → slice_index_or times.new.items n 0 ≤ slice_index_or times.old.items n 0 }
@@ -185,7 +185,7 @@ impl LeastTags {
     #[inline(always)]
     pub fn set(&mut self, unit: Unit, tag: Option<Tag>)
         requires { IsSome tag → FitsIn (length self.old) unit }
-        ensures tags { (x : Part) → tag_in self.new x ≡ (if same_part unit x then tag else tag_in self.old x) }
+        ensures tags { (x : Unit) → tag_in self.new x ≡ (if same_part unit x then tag else tag_in self.old x) }
         ensures len { length self.new ≡ length self.old }
     {
         if unit.group >= 8 {
@@ -201,7 +201,7 @@ impl LeastTags {
     /// Sets the tag of a unit to this one, if it has none or a greater one.
     pub fn lower(&mut self, unit: Unit, tag: Tag)
         requires { FitsIn (length self.old) unit }
-        ensures tags { (x : Part) → tag_in self.new x ≡ (if same_part unit x then sooner (tag_in self.old unit) tag else tag_in self.old x) }
+        ensures tags { (x : Unit) → tag_in self.new x ≡ (if same_part unit x then sooner (tag_in self.old unit) tag else tag_in self.old x) }
         ensures len { length self.new ≡ length self.old }
     {
         if is_least(self.of(unit), tag) {
@@ -239,7 +239,7 @@ impl LeastTags {
     /// A time in microseconds that no tag with its place in this word is before.
     #[inline(always)]
     pub fn not_before(&self, word: usize) -> u64
-        ensures { (u : Part) (t : Tag) → tag_in self.now u ≡ Some t → unit_place u / 64 ≡ word → result ≤ t.time }
+        ensures { (u : Unit) (t : Tag) → tag_in self.now u ≡ Some t → unit_place u / 64 ≡ word → result ≤ t.time }
     {
         word_at(self.times.as_slice(), word)
     }

@@ -3,7 +3,7 @@
 ghost use Rattle.std.specs.Prelude.{◌≡◌, ◌↔◌, ℕ, ◌+◌, ◌/◌, ◌<◌, ◌≤◌, true, false, None, [], length, IfOk, IsOk, OnOk, OnErr};
 ghost use Rattle.pt_tags.specs.declared.tag.Tag.{Tag};
 ghost use Rattle.pt_types.specs.declared.graph.Graph.{Graph};
-ghost use Rattle.pt_types.specs.declared.graph.Unit.{Unit as Part};
+ghost use Rattle.pt_types.specs.declared.graph.Unit.{Unit};
 ghost use Rattle.pt_types.specs.Lawful.{IsLawful};
 ghost use Rattle.pt_semantics.specs.Claiming.{without_unit};
 ghost use Rattle.pt_semantics.specs.Lists.{Each};
@@ -187,7 +187,7 @@ impl Queue {
     /// least of their times. If none of these units has events it is `u64::MAX`, or 0 for a word past the last one.
     #[inline(always)]
     pub fn not_before(&self, word: usize) -> u64
-        ensures { (g : Graph) → AreGroups g self.now.groups → (u : Part) (t : Tag) → HasEvent g (waiting_in self.now.events) u t → unit_place u / 64 ≡ word → result ≤ t.time }
+        ensures { (g : Graph) → AreGroups g self.now.groups → (u : Unit) (t : Tag) → HasEvent g (waiting_in self.now.events) u t → unit_place u / 64 ≡ word → result ≤ t.time }
     {
         self.tags.not_before(word)
     }

@@ -1,6 +1,6 @@
 -- Two paced runs over one graph and its rows leave the same.
 use Rattle.std.proofs.Common.{◌≡◌, ◌≢◌, ℕ, ◌<◌, ◌≤◌, List, [], Option, None, Some, false, length, option_map, slice_get, unwrap_or, refl, sym, ap, subst, ◌∙◌, arith, ⊎_elim}
-use Rattle.std.specs.Prelude.{◌↔◌}
+use Rattle.std.specs.Prelude.{◌↔◌, IfSome}
 use Rattle.std.proofs.lemmas.Bool.{cases_lt}
 use Rattle.std.proofs.lemmas.Option.{slice_get_within}
 use Rattle.pt_types.specs.declared.graph.Graph.{Graph}
@@ -11,29 +11,32 @@ use Rattle.pt_semantics.specs.Visits.{Made, Together}
 use Rattle.pt_semantics.proofs.Acyclic.{levels_are_one}
 use Rattle.pt_semantics.proofs.Lookups.{none_some}
 use Rattle.pt_laws.proofs.Onward.{cases_same}
-use Rattle.pt_schedule.specs.WholeRuns.{IsEnd}
-use Rattle.pt_schedule.proofs.OneRun.{runs_are_one}
+use Rattle.pt_paced_laws.specs.WholeRuns.{IsEnd}
+use Rattle.pt_paced_laws.proofs.OneRun.{runs_are_one}
 use Rattle.pt_semantics.proofs.LawfulEdges.{wired}
 use Rattle.pt_causality.specs.Ranked.{level_of}
 use Rattle.pt_offsets.specs.Plans.{Parts}
 use Rattle.pt_offsets.specs.Timings.{offset_of}
+use Rattle.pt_turn.specs.declared.fault.TurnFault.{TurnFault}
 use Rattle.pt_turn.specs.declared.fault.TurnFault.TheVariants.{Long}
 use Rattle.pt_turn.specs.Platforms.{PlatformView}
 use Rattle.pt_turn.specs.All.{histories_of}
 use Rattle.pt_rounds.specs.Agreeing.{PacedRunsAgree}
-use Rattle.pt_rounds.specs.HaveRun.{EndsWith, HaveRun}
-use Rattle.pt_together.proofs.Listed.{member}
+use Rattle.pt_rounds.specs.Outcome.{IsOutcome}
+use Rattle.pt_engine.specs.Asked.{EndsAt}
+use Rattle.pt_engine.proofs.Listed.{member}
 
 -- what a run of a graph leaves, apart from the other parts of its plan
-record Leaves (g : Graph) (level : ℕ → ℕ) (rows : ℕ → List Row) (platforms : List PlatformView) (fault : Option ℕ) : Type 0 where
+record Leaves (g : Graph) (level : ℕ → ℕ) (rows : ℕ → List Row) (platforms : List PlatformView) (fault : Option (ℕ × TurnFault)) : Type 0 where
   y : Together
   end : IsEnd g level rows y
   count : length platforms ≡ length g.platforms
   kept_turns : (i : ℕ) (v : PlatformView) → slice_get platforms i ≡ Some v → v.turns ≡ kept (y.did i)
   faults : (i : ℕ) (v : PlatformView) → slice_get platforms i ≡ Some v → (v.fault ≡ None) ↔ ((m : Made) → IsIn m end.run.made → m.platform ≡ i → m.fault ≡ false)
-  ends : EndsWith g platforms fault
+  ends : EndsAt g platforms fault
+  only : IfSome fault (λ (f : ℕ × TurnFault). f.1 ≡ Long)
 
-leaves : (plan : Parts) (rows : ℕ → List Row) (platforms : List PlatformView) (fault : Option ℕ) → HaveRun plan (level_of plan.ranks) rows platforms fault → Leaves plan.graph (level_of plan.ranks) rows platforms fault
+leaves : (plan : Parts) (rows : ℕ → List Row) (platforms : List PlatformView) (fault : Option (ℕ × TurnFault)) → IsOutcome plan (level_of plan.ranks) rows platforms fault → Leaves plan.graph (level_of plan.ranks) rows platforms fault
 leaves plan rows platforms fault h = record {
   y = h.after.together;
   end = record { wired = wired plan.graph h.admitted.lawful; levels = h.admitted.levels; fit = h.fit; feasible = h.admitted.feasible; offset = offset_of plan.offsets; offsets = h.admitted.offsets.units; run = h.after.run };
@@ -41,6 +44,7 @@ leaves plan rows platforms fault h = record {
   kept_turns = h.after.kept_turns;
   faults = h.after.faults;
   ends = h.ends;
+  only = h.all_claims_made;
 }
 
 -- the platform of a number has the history that was kept, and past the end there is none
@@ -56,7 +60,10 @@ nothing_past platforms i le (Some v) e = absurd (let lt = slice_get_within platf
 past : (platforms : List PlatformView) (i : ℕ) → length platforms ≤ i → slice_get platforms i ≡ None
 past platforms i le = nothing_past platforms i le (slice_get platforms i) refl
 
-module _ (g : Graph) (level : ℕ → ℕ) (rows : ℕ → List Row) (platforms others : List PlatformView) (fault stop : Option ℕ) (a : Leaves g level rows platforms fault) (b : Leaves g level rows others stop) where
+same_pair : (i j : ℕ) (f e : TurnFault) → i ≡ j → f ≡ e → ◌≡◌ {A = Option (ℕ × TurnFault)} (Some (i, f)) (Some (j, e))
+same_pair i j f e number fault = λ x. Some (number x, fault x)
+
+module _ (g : Graph) (level : ℕ → ℕ) (rows : ℕ → List Row) (platforms others : List PlatformView) (fault stop : Option (ℕ × TurnFault)) (a : Leaves g level rows platforms fault) (b : Leaves g level rows others stop) where
   one : (a.y ≡ b.y) × (a.end.run.made ≡ b.end.run.made)
   one = runs_are_one g level rows a.y b.y a.end b.end
 
@@ -85,20 +92,20 @@ module _ (g : Graph) (level : ℕ → ℕ) (rows : ℕ → List Row) (platforms 
   in_platforms : (i : ℕ) (w : PlatformView) → slice_get others i ≡ Some w → (v : PlatformView) × (slice_get platforms i ≡ Some v)
   in_platforms i w at = member platforms i (subst (λ n. i < n) (b.count ∙ sym a.count) (slice_get_within others i w at))
 
-  faulty : (v : PlatformView) → v.fault ≡ Some Long → v.fault ≡ None → ⊥
-  faulty v long none = none_some Long (sym none ∙ long)
+  faulty : (f : TurnFault) (v : PlatformView) → v.fault ≡ Some f → v.fault ≡ None → ⊥
+  faulty f v is none = none_some f (sym none ∙ is)
 
-  same_fault : (o p : Option ℕ) → EndsWith g platforms o → EndsWith g others p → o ≡ p
-  same_fault None None h k = refl
-  same_fault None (Some i) h (w, at, long, before) = let v = in_platforms i w at in absurd (faulty w long (on i v.0 w v.1 at (h i v.0 v.1).0))
-  same_fault (Some i) None (v, at, long, before) k = let w = in_others i v at in absurd (faulty v long (back i v w.0 at w.1 (k i w.0 w.1).0))
-  same_fault (Some i) (Some j) (v, at, long, before) (w, at2, long2, before2) =
+  same_fault : (o p : Option (ℕ × TurnFault)) → EndsAt g platforms o → EndsAt g others p → IfSome o (λ (f : ℕ × TurnFault). f.1 ≡ Long) → IfSome p (λ (f : ℕ × TurnFault). f.1 ≡ Long) → o ≡ p
+  same_fault None None h k long long2 = refl
+  same_fault None (Some (i, f)) h (w, at, is, shows, before) long long2 = let v = in_platforms i w at in absurd (faulty f w is (on i v.0 w v.1 at (h i v.0 v.1).0))
+  same_fault (Some (i, f)) None (v, at, is, shows, before) k long long2 = let w = in_others i v at in absurd (faulty f v is (back i v w.0 at w.1 (k i w.0 w.1).0))
+  same_fault (Some (i, f)) (Some (j, e)) (v, at, is, shows, before) (w, at2, is2, shows2, before2) long long2 =
       ⊎_elim
-      (λ (e : i ≡ j). ap Some e)
+      (λ (here : i ≡ j). same_pair i j f e here (long ∙ sym long2))
       (λ (ne : i ≢ j).
       ⊎_elim
-      (λ (lt : i < j). let u = in_others i v at in absurd (faulty v long (back i v u.0 at u.1 (before2 i u.0 lt u.1))))
-      (λ (le : j ≤ i). let u = in_platforms j w at2 in absurd (faulty w long2 (on j u.0 w u.1 at2 (before j u.0 (below i j le ne) u.1))))
+      (λ (lt : i < j). let u = in_others i v at in absurd (faulty f v is (back i v u.0 at u.1 (before2 i u.0 lt u.1))))
+      (λ (le : j ≤ i). let u = in_platforms j w at2 in absurd (faulty e w is2 (on j u.0 w u.1 at2 (before j u.0 (below i j le ne) u.1))))
       (cases_lt i j))
       (cases_same i j)
     where
@@ -106,7 +113,7 @@ module _ (g : Graph) (level : ℕ → ℕ) (rows : ℕ → List Row) (platforms 
       below i j le ne = ⊎_elim (λ (lt : j < i). lt) (λ (up : i ≤ j). absurd (ne (omega (arith, le, up)))) (cases_lt j i)
 
   agree : ((i : ℕ) → histories_of platforms i ≡ histories_of others i) × (fault ≡ stop)
-  agree = (same_histories, same_fault fault stop a.ends b.ends)
+  agree = (same_histories, same_fault fault stop a.ends b.ends a.only b.only)
 
 pub runs_agree : PacedRunsAgree
 runs_agree plan other rows platforms others fault stop same h k =

@@ -5,7 +5,7 @@ use Rattle.pt_semantics.specs.Paced.{IsCandidate, IsNextReading}
 use Rattle.pt_turn.specs.Platforms.{PlatformView, state_at}
 use Rattle.pt_rounds.specs.Asked.{IsLeastOf, NoneIsOpen}
 use Rattle.pt_visits.specs.Least.{lesser}
-use Rattle.pt_together.proofs.Listed.{one_more}
+use Rattle.pt_engine.proofs.Listed.{one_more}
 
 -- no candidate of an open platform is below b
 abbrev Reads : ℕ → PlatformView → Type 0

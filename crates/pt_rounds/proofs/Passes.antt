@@ -13,7 +13,7 @@ use Rattle.pt_semantics.specs.Turn.{is_quiet}
 use Rattle.pt_semantics.specs.Visits.{Made}
 use Rattle.pt_semantics.proofs.Lookups.{Each-append, IsIn-append, IsIn-append_left, IsIn-append_right}
 use Rattle.pt_laws.proofs.Onward.{Onward, cases_same, round_onward}
-use Rattle.pt_schedule.proofs.PacedRuns.{run_onward}
+use Rattle.pt_paced_laws.proofs.PacedRuns.{run_onward}
 use Rattle.pt_semantics.proofs.LawfulEdges.{wired}
 use Rattle.pt_causality.specs.Ranked.{level_of}
 use Rattle.pt_offsets.specs.Plans.{Parts}
@@ -22,12 +22,12 @@ use Rattle.pt_turn.specs.declared.fault.TurnFault.{TurnFault}
 use Rattle.pt_turn.specs.declared.fault.TurnFault.TheVariants.{Late, Long}
 use Rattle.pt_turn.specs.Platforms.{PlatformView, state_at}
 use Rattle.pt_turn.specs.Turned.{is_late}
-use Rattle.pt_together.specs.Asked.{HaveNoFault}
+use Rattle.pt_engine.specs.Asked.{HaveNoFault}
 use Rattle.pt_rounds.specs.Passing.{HavePassed, IsLong, IsBeforeRound, WasVisitedInRound}
-use Rattle.pt_together.specs.Shown.{AreThere, is_fault}
-use Rattle.pt_together.proofs.Changed.{set_here}
-use Rattle.pt_together.proofs.Passing.{IsNoisy, closed_still, is_new, is_old, no_fault_before, noisy_by, noisy_now, noisy_still}
-use Rattle.pt_together.proofs.Views.{from_view, there_of, to_view}
+use Rattle.pt_engine.specs.Shown.{AreThere, is_fault}
+use Rattle.pt_engine.proofs.Changed.{set_here}
+use Rattle.pt_engine.proofs.Passing.{IsNoisy, closed_still, is_new, is_old, no_fault_before, noisy_by, noisy_now, noisy_still}
+use Rattle.pt_engine.proofs.Views.{from_view, there_of, to_view}
 use Rattle.pt_rounds.proofs.Showing.{Shows, visit_shows}
 use Rattle.pt_rounds.proofs.Steps.{make_one, pass_by}
 

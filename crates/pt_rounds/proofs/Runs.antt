@@ -1,10 +1,11 @@
 -- After a whole round.
 use Rattle.std.proofs.Common.{◌≡◌, ℕ, ◌+◌, ◌<◌, ◌⊎◌, Bool, true, false, List, [], ◌∷◌, ◌++◌, Option, Some, None, length, slice_get, length-append, refl, sym, ap, subst, ◌∙◌, arith, inl, inr, ⊎_elim}
+use Rattle.std.specs.Prelude.{IfSome}
 use Rattle.std.proofs.lemmas.Bool.{cases_Bool, false≢true}
 use Rattle.std.proofs.lemmas.Option.{slice_get_within}
 use Rattle.pt_tags.specs.declared.message.Message.{Message}
 use Rattle.pt_types.specs.declared.firing.Done.{Done}
-use Rattle.pt_types.specs.declared.graph.Unit.{Unit as Part}
+use Rattle.pt_types.specs.declared.graph.Unit.{Unit}
 use Rattle.pt_types.specs.declared.rows.Row.{Row}
 use Rattle.pt_types.specs.Lookups.{platform_of}
 use Rattle.pt_semantics.specs.History.{IsLegal, LegalOnTime, claims_of}
@@ -21,29 +22,31 @@ use Rattle.pt_semantics.specs.Visits.{AreFinished, Made, Together, together_at_s
 use Rattle.pt_semantics.specs.Counts.{unit_firings}
 use Rattle.pt_semantics.specs.Parts.{parts}
 use Rattle.pt_semantics.specs.Wired.{IsWired}
-use Rattle.pt_schedule.proofs.Long.{long_exactly}
-use Rattle.pt_semantics.proofs.Lookups.{Each-in, none_some}
-use Rattle.pt_schedule.proofs.PacedKept.{paced_are_legal}
-use Rattle.pt_schedule.proofs.Quiet.{quiet_ends}
-use Rattle.pt_schedule.specs.Schedule.{IsOnSchedule, SendsWithinSlack}
-use Rattle.pt_schedule.specs.WholeRuns.{IsEnd, kept_by}
-use Rattle.pt_schedule.proofs.Existing.{meanings_exist}
-use Rattle.pt_schedule.proofs.Kept.{all_on_schedule, all_within_slack, claimed_as_meant, missed_as_meant, none_is_late}
+use Rattle.pt_paced_laws.proofs.Long.{long_exactly}
+use Rattle.pt_semantics.proofs.Lookups.{Each-in, none_some, same_some}
+use Rattle.pt_paced_laws.proofs.PacedKept.{paced_are_legal}
+use Rattle.pt_paced_laws.proofs.Quiet.{quiet_ends}
+use Rattle.pt_paced_laws.specs.Schedule.{IsOnSchedule, SendsWithinSlack}
+use Rattle.pt_paced_laws.specs.WholeRuns.{IsEnd, kept_by}
+use Rattle.pt_paced_laws.proofs.Existing.{meanings_exist}
+use Rattle.pt_paced_laws.proofs.Kept.{all_on_schedule, all_within_slack, claimed_as_meant, missed_as_meant, none_is_late}
 use Rattle.pt_semantics.proofs.LawfulEdges.{wired}
 use Rattle.pt_causality.specs.Ranked.{level_of, rank_of}
 use Rattle.pt_offsets.specs.Plans.{Parts}
 use Rattle.pt_offsets.specs.Timings.{offset_of}
+use Rattle.pt_turn.specs.declared.fault.TurnFault.{TurnFault}
+use Rattle.pt_turn.specs.declared.fault.TurnFault.TheVariants.{Long}
 use Rattle.pt_turn.specs.All.{histories_of}
 use Rattle.pt_turn.specs.Platforms.{PlatformView, state_at}
-use Rattle.pt_together.specs.Asked.{AreAllFinished, HaveNoFault}
-use Rattle.pt_rounds.specs.Asked.{IsFirstFault, IsLeastOf, NoneIsOpen}
-use Rattle.pt_rounds.specs.HaveRun.{EndsWith, HaveRun, IsLongOn}
+use Rattle.pt_engine.specs.Asked.{AreAllFinished, EndsAt, HaveNoFault, IsFirstFault}
+use Rattle.pt_rounds.specs.Asked.{IsLeastOf, NoneIsOpen}
+use Rattle.pt_rounds.specs.Outcome.{IsOutcome, IsLongOn}
 use Rattle.pt_rounds.specs.Passing.{HavePassed, IsLong, IsBeforeRound}
-use Rattle.pt_together.specs.Shown.{AreShown, AreThere}
-use Rattle.pt_together.proofs.First.{AreOpened, shown_first}
-use Rattle.pt_together.proofs.Views.{all_finished, each_finished, finished_here, from_view, history, there_of, to_view, view}
+use Rattle.pt_engine.specs.Shown.{AreShown, AreThere}
+use Rattle.pt_engine.proofs.Faults.{ends_at_first}
+use Rattle.pt_engine.proofs.First.{AreOpened, shown_first}
+use Rattle.pt_engine.proofs.Views.{all_finished, each_finished, finished_here, from_view, history, there_of, to_view, view}
 use Rattle.pt_rounds.proofs.Steps.{one_round}
-use Rattle.pt_types.specs.Limits.{most_claims}
 
 -- facts on all platforms together, from their views
 module _ (plan : Parts) (rows : ℕ → List Row) (x : Together) (platforms : List PlatformView) (pipes : List (List Message)) (results : List (List Done)) (shown : AreShown plan rows x platforms pipes results) where
@@ -109,14 +112,15 @@ module _ (plan : Parts) (rows : ℕ → List Row) (count c : ℕ) (olds : List P
   are_there = there_of plan rows h.together platforms pipes results h.shown
 
   -- the end of a run, in what the platforms show
-  ended : AreFinished plan.graph h.together ⊎ (Each (λ (m : Made). m.fault ≡ false) h.made → ⊥) → (fault : Option ℕ) → EndsWith plan.graph platforms fault → (fault ≡ None → AreFinished plan.graph h.together) →
-      ((rank : ℕ → ℕ) (xs : List ActorFiring) → AreRanks plan.graph rank → IsMeaning plan.graph rank rows xs → IsLongOn plan.graph xs fault) → HaveRun plan (level_of plan.ranks) rows platforms fault
-  ended ends fault so done long = record {
+  ended : AreFinished plan.graph h.together ⊎ (Each (λ (m : Made). m.fault ≡ false) h.made → ⊥) → (fault : Option (ℕ × TurnFault)) → EndsAt plan.graph platforms fault → IfSome fault (λ (f : ℕ × TurnFault). f.1 ≡ Long) → (fault ≡ None → AreFinished plan.graph h.together) →
+      ((rank : ℕ → ℕ) (xs : List ActorFiring) → AreRanks plan.graph rank → IsMeaning plan.graph rank rows xs → IsLongOn plan.graph xs fault) → IsOutcome plan (level_of plan.ranks) rows platforms fault
+  ended ends fault so only done long = record {
     admitted = s.admitted;
     fit = s.fit;
     all = h.shown.all;
     after = record { together = h.together; run = run; kept_turns = h.shown.kept_turns; states = h.shown.states; faults = λ i v there. (h.answered i v there, none_answered i v there) };
     ends = so;
+    all_claims_made = only;
     matched = λ l link at.
         let m = laws.1 l link at in (
           m.0,
@@ -158,7 +162,7 @@ module _ (plan : Parts) (rows : ℕ → List Row) (count c : ℕ) (olds : List P
       below : (i : ℕ) (v : PlatformView) → slice_get platforms i ≡ Some v → i < length plan.graph.platforms
       below i v there = subst (λ n. i < n) h.shown.all.count (slice_get_within platforms i v there)
 
-      claims : (u : Part) → all_claims plan.graph (histories_of platforms) u ≡ all_claims plan.graph (kept_by h.together) u
+      claims : (u : Unit) → all_claims plan.graph (histories_of platforms) u ≡ all_claims plan.graph (kept_by h.together) u
       claims u = ap (λ (turns : List Turn). claims_of plan.graph turns u) (history plan rows h.together platforms are_there (platform_of plan.graph u.actor) (is_wired.homes u.actor))
 
       -- where its turn answered no fault a platform has none
@@ -169,30 +173,32 @@ module _ (plan : Parts) (rows : ℕ → List Row) (count c : ℕ) (olds : List P
           (λ (long : (i < length olds) × IsLong h.made i v). absurd (false≢true (sym (fine long.1.turn long.1.there long.1.platform) ∙ long.1.answers)))
           (h.faults i v there)
 
-  pub ended_finished : HaveNoFault platforms → AreAllFinished platforms → HaveRun plan (level_of plan.ranks) rows platforms None
+  pub ended_finished : HaveNoFault platforms → AreAllFinished platforms → IsOutcome plan (level_of plan.ranks) rows platforms None
   ended_finished none done =
       let all = all_finished plan rows h.together platforms are_there done in
       ended (inl all) None
       (λ i v there. (none i v there, finished_here plan rows h.together platforms are_there done i v there))
+      tt
       (λ e. all)
       (λ rank xs ranks meaning.
       (long_exactly plan.graph (level_of plan.ranks) rank rows (offset_of plan.offsets) s.rounds c (length plan.graph.platforms) h.made h.together xs is_wired s.admitted.levels ranks s.fit s.admitted.feasible s.admitted.offsets.units in_round meaning).1 all)
 
-  pub ended_long : (i number : ℕ) (v : PlatformView) → IsFirstFault platforms i → slice_get platforms i ≡ Some v → v.number ≡ number → HaveRun plan (level_of plan.ranks) rows platforms (Some number)
-  ended_long i number v first there is =
-      subst (λ n. HaveRun plan (level_of plan.ranks) rows platforms (Some n)) (sym (h.shown.all.numbers i v there) ∙ is)
-      (⊎_elim
-      (λ (none : first.view.fault ≡ None). absurd (first.fault none))
-      (λ (long : (i < length olds) × IsLong h.made i first.view).
+  pub ended_long : (fault : ℕ × TurnFault) → IsFirstFault platforms fault → IsOutcome plan (level_of plan.ranks) rows platforms (Some fault)
+  ended_long fault first =
+      let number_is : first.place ≡ fault.0 = sym (h.shown.all.numbers first.place first.view first.at) ∙ sym first.number in
+      ⊎_elim
+      (λ (none : first.view.fault ≡ None). absurd (none_some fault.1 (sym none ∙ first.is)))
+      (λ (long : (first.place < length olds) × IsLong h.made first.place first.view).
       ended (inr (λ fine. false≢true (sym (Each-in (λ (m : Made). m.fault ≡ false) h.made fine long.1.turn long.1.there) ∙ long.1.answers)))
-      (Some i) (first.view, first.at, long.1.all_claims, first.before)
-      (λ e. absurd (none_some i (sym e)))
+      (Some fault) (ends_at_first plan rows platforms h.shown.all fault first)
+      (same_some fault.1 Long (sym first.is ∙ long.1.all_claims))
+      (λ e. absurd (none_some fault (sym e)))
       (λ rank xs ranks meaning.
-      subst (λ k. most_claims < unit_firings plan.graph k (parts plan.graph xs)) long.1.platform
-      (Each-in (λ (m : Made). m.fault ≡ true → most_claims < unit_firings plan.graph m.platform (parts plan.graph xs)) h.made
+      subst (λ k. plan.graph.claims < unit_firings plan.graph k (parts plan.graph xs)) (long.1.platform ∙ number_is)
+      (Each-in (λ (m : Made). m.fault ≡ true → plan.graph.claims < unit_firings plan.graph m.platform (parts plan.graph xs)) h.made
       (long_exactly plan.graph (level_of plan.ranks) rank rows (offset_of plan.offsets) s.rounds c (length plan.graph.platforms) h.made h.together xs is_wired s.admitted.levels ranks s.fit s.admitted.feasible s.admitted.offsets.units in_round meaning).0
       long.1.turn long.1.there long.1.answers)))
-      (h.faults i first.view first.at))
+      (h.faults first.place first.view first.at)
 
   pub open_after_quiet : quiet ≡ true → HaveNoFault platforms → (AreAllFinished platforms → ⊥) → NoneIsOpen (length platforms) platforms → ⊥
   open_after_quiet calm none going closed = going (each_finished plan rows h.together platforms are_there

@@ -18,10 +18,10 @@ use Rattle.pt_turn.specs.Platforms.{PlatformView, level_at, raised_to, state_at}
 use Rattle.pt_turn.specs.Turned.{MayCome, is_late}
 use Rattle.pt_visits.specs.Pipes.{arriving}
 use Rattle.pt_visits.specs.Visited.{IsVisited}
-use Rattle.pt_together.specs.Shown.{AreShown, is_fault}
-use Rattle.pt_together.specs.Showing.{OnTimeSoFar, ShowsVisit}
-use Rattle.pt_together.proofs.Showing.{all_on_time, may_come as comes, visit_shows as shows_visit}
-use Rattle.pt_together.proofs.Passing.{raised_same}
+use Rattle.pt_engine.specs.Shown.{AreShown, is_fault}
+use Rattle.pt_engine.specs.Showing.{OnTimeSoFar, ShowsVisit}
+use Rattle.pt_engine.proofs.Showing.{all_on_time, may_come as comes, visit_shows as shows_visit}
+use Rattle.pt_engine.proofs.Passing.{raised_same}
 
 -- a visit at reading c of a round, and what the platforms, pipes and results represent after it
 pub record Shows (plan : Parts) (rows : ℕ → List Row) (c i : ℕ) (x : Together) (w : PlatformView) (turn : Turn) (platforms : List PlatformView) (piped : List (List Message)) (results : List (List Done)) : Type 0 where

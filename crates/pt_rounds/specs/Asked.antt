@@ -1,14 +1,7 @@
 -- What the engine asks the platforms between rounds.
-use Rattle.std.specs.Prelude.{◌≡◌, ◌<◌, ◌≤◌, ℕ, List, None, Some, false, slice_get, true}
+use Rattle.std.specs.Prelude.{◌≡◌, ◌<◌, ◌≤◌, ℕ, List, Some, false, slice_get, true}
 use Rattle.pt_semantics.specs.Paced.{IsCandidate}
 use Rattle.pt_turn.specs.Platforms.{PlatformView, state_at}
-
--- platform i is the first with a fault
-pub record IsFirstFault (platforms : List PlatformView) (i : ℕ) : Type 0 where
-  pub view : PlatformView
-  pub at : slice_get platforms i ≡ Some view
-  pub fault : view.fault ≡ None → ⊥
-  pub before : (j : ℕ) (w : PlatformView) → j < i → slice_get platforms j ≡ Some w → w.fault ≡ None
 
 -- the first n platforms are closed
 abbrev pub NoneIsOpen : ℕ → List PlatformView → Type 0

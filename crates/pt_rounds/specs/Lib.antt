@@ -1,4 +1,4 @@
 pub mod Agreeing
 pub mod Asked
-pub mod HaveRun
+pub mod Outcome
 pub mod Passing

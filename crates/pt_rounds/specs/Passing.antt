@@ -13,8 +13,8 @@ use Rattle.pt_offsets.specs.Plans.{IsAdmitted, Parts}
 use Rattle.pt_turn.specs.declared.fault.TurnFault.TheVariants.{Long}
 use Rattle.pt_turn.specs.Platforms.{PlatformView}
 use Rattle.pt_visits.specs.Visited.{IsVisited}
-use Rattle.pt_together.specs.Asked.{HaveNoFault}
-use Rattle.pt_together.specs.Shown.{AreShown}
+use Rattle.pt_engine.specs.Asked.{HaveNoFault}
+use Rattle.pt_engine.specs.Shown.{AreShown}
 
 -- a platform was visited, and `still` says whether it did nothing and did not close
 pub record WasVisitedInRound (r : ℕ) (dones results : List Done) (old new : PlatformView) (pipes piped : List (List Message)) (still : Bool) : Type 0 where

@@ -1,28 +1,16 @@
 //! What the engine asks the platforms between rounds.
 
 ghost use Rattle.std.specs.Prelude.{◌≡◌, MatchOption, false, length};
-ghost use Rattle.pt_rounds.specs.Asked.{IsFirstFault, IsLeastOf, NoneIsOpen};
-ghost use Rattle.pt_together.specs.Asked.{HaveNoFault};
+ghost use Rattle.pt_rounds.specs.Asked.{IsLeastOf, NoneIsOpen};
+ghost use Rattle.pt_engine.specs.Asked.{HaveNoFault, IsFirstFault};
 
-use pt_turn::Platform;
+use pt_engine::first_fault;
+use pt_turn::{Platform, TurnFault};
 use pt_visits::lesser;
 
-/// The first platform that has a fault. Not inlined, since mostly none has one.
-#[inline(never)]
-fn first_fault(platforms: &[Platform]) -> Option<usize>
-    ensures { MatchOption result (HaveNoFault platforms.now) (IsFirstFault platforms.now) }
-{
-    for i in 0..platforms.len() {
-        if platforms[i].fault().is_some() {
-            return Some(i);
-        }
-    }
-    None
-}
-
-/// The first platform that has a fault; none has one unless one is `faulty`.
+/// The first fault, with the number of its platform; there is none unless one is `faulty`.
 #[inline(always)]
-pub fn fault_of(platforms: &[Platform], faulty: bool) -> Option<usize>
+pub fn fault_of(platforms: &[Platform], faulty: bool) -> Option<(u32, TurnFault)>
     requires { faulty ≡ false → HaveNoFault platforms.now }
     ensures { MatchOption result (HaveNoFault platforms.now) (IsFirstFault platforms.now) }
 {

@@ -1,7 +1,7 @@
 //! The paced engine: it runs all platforms of a plan in rounds, each at one common reading, until all are finished or one has
 //! made all the claims that it may.
 //!
-//! Read first: `paced`, then `specs/HaveRun.antt`.
+//! Read first: `paced`, then `specs/Outcome.antt`.
 #![tactic(auto)]
 
 mod asking;
@@ -11,4 +11,4 @@ mod passing;
 mod rounds;
 
 pub use laws::paced_runs_agree;
-pub use rounds::{Rounds, paced};
+pub use rounds::paced;

@@ -4,24 +4,21 @@ ghost use Rattle.std.specs.Prelude.{◌≡◌, IfOk, OnOk, ℕ, List, None, fals
 ghost use Rattle.std.specs.List.{list_all};
 ghost use Rattle.pt_types.specs.declared.rows.Row.{Row};
 ghost use Rattle.pt_offsets.specs.Plans.{Parts};
-ghost use Rattle.pt_post.specs.Posted.{AreDone};
+ghost use Rattle.pt_turn.specs.Posts.Posted.{AreDone};
 ghost use Rattle.pt_semantics.specs.Turn.{is_empty};
 ghost use Rattle.pt_turn.specs.Platforms.{level_at, state_at};
 ghost use Rattle.pt_turn.specs.Turned.{MayCome};
 ghost use Rattle.pt_visits.specs.Pipes.{arriving};
-ghost use Rattle.pt_together.specs.Asked.{HaveNoFault, result_lists};
+ghost use Rattle.pt_engine.specs.Asked.{HaveNoFault, result_lists};
 ghost use Rattle.pt_rounds.specs.Passing.{HavePassed, IsBeforeRound, WasVisitedInRound};
 
 use pt_actors::Done;
 use pt_blocks::Blocks;
+use pt_engine::{CLAIMS_A_TURN, was_quiet};
 use pt_links::Pipe;
-use pt_tags::Memory;
-use pt_together::was_quiet;
+use pt_tags::{Memory, Reading};
 use pt_turn::Platform;
 use pt_visits::{Desk, visit_knowing};
-
-/// The most units that a platform claims in one turn.
-const MOST: usize = 64;
 
 /// Visits a platform, and returns whether only its reading changed. Unless a message may be `under_way`, all links are empty.
 fn visit_one(
@@ -30,7 +27,7 @@ fn visit_one(
     results: &mut Vec<Done>,
     desk: &mut Desk,
     blocks: &Blocks,
-    reading: u64,
+    reading: Reading,
     under_way: &mut bool,
 ) -> Result<bool, Memory>
     requires no_fault { platform.old.fault ≡ None }
@@ -44,7 +41,14 @@ fn visit_one(
 {
     let closed = platform.closed();
     visit_knowing(
-        platform, pipes, results, desk, blocks, reading, MOST, under_way,
+        platform,
+        pipes,
+        results,
+        desk,
+        blocks,
+        reading,
+        CLAIMS_A_TURN,
+        under_way,
     )?;
     Ok(platform.closed() == closed && was_quiet(platform))
 }
@@ -65,7 +69,7 @@ pub fn pass(
     results: &mut [Vec<Done>],
     desk: &mut Desk,
     blocks: &Blocks,
-    reading: u64,
+    reading: Reading,
     under_way: &mut bool,
     faulty: &mut bool,
 ) -> Result<bool, Memory>

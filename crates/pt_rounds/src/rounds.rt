@@ -5,26 +5,22 @@ ghost use Rattle.pt_types.specs.declared.rows.Row.{Row};
 ghost use Rattle.pt_causality.specs.Ranked.{level_of};
 ghost use Rattle.pt_offsets.specs.Plans.{Parts};
 ghost use Rattle.pt_turn.specs.All.{AreReady, IsReady};
-ghost use Rattle.pt_rounds.specs.HaveRun.{HaveRun};
+ghost use Rattle.pt_rounds.specs.Outcome.{IsOutcome};
 
 use crate::asking::next_reading;
 use crate::going_on::go_on;
 use pt_blocks::Blocks;
+use pt_engine::{Rounds, no_results, pipes};
 use pt_tags::Memory;
-use pt_together::{no_results, pipes};
 use pt_turn::Platform;
 use pt_visits::Desk;
 use std::alloc::Global;
 
-/// The platforms after a run, in the order of the graph, and the first one with a fault.
-#[derive(Drop)]
-pub struct Rounds {
-    pub platforms: Vec<Platform>,
-    pub fault: Option<u32>,
-}
-
 /// Runs all platforms of one plan, just opened and in the order of its graph, under the paced clock: in rounds at one common
 /// reading, until all are finished, or until after a round in which one needed more claims than it may make.
+///
+/// If the next readings of two platforms are 100 and 250, both make their first turn at 100, and the second round is at 100 too,
+/// since the first one was not quiet.
 ///
 /// `workers` has no effect: a round has at most 1,024 firings of some 10 nanoseconds each, which no other thread could take
 /// over in less time, so the caller fires them all.
@@ -36,7 +32,7 @@ pub fn paced(
 ) -> Result<Rounds, Memory>
     requires some { 0 < length platforms.items }
     requires ready { IsReady platforms.items }
-    ensures run { IfOk result (λ rounds. (plan : Parts) (rows : ℕ → List Row) → AreReady plan rows platforms.items → HaveRun plan (level_of plan.ranks) rows rounds.platforms.items rounds.fault) }
+    ensures outcome { IfOk result (λ rounds. (plan : Parts) (rows : ℕ → List Row) → AreReady plan rows platforms.items → IsOutcome plan (level_of plan.ranks) rows rounds.platforms.items rounds.fault) }
 {
     let mut platforms = platforms;
     let links = platforms[0].plan().graph().links.as_slice().len();

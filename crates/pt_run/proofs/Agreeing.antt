@@ -6,33 +6,33 @@ use Rattle.pt_graph_text.specs.declared.fault.GraphFault.{GraphFault}
 use Rattle.pt_graph.specs.GraphOf.{graph_of}
 use Rattle.pt_semantics.proofs.Lookups.{none_some, same_some}
 use Rattle.pt_turn.specs.All.{histories_of}
-use Rattle.pt_sensors.specs.Asked.{Contents}
-use Rattle.pt_run.specs.RunsAgreeing.{TellsSensors}
+use Rattle.pt_io.specs.Calls.{Contents}
+use Rattle.pt_run.specs.RunsAgreeing.{ReportsSensors}
 use Rattle.pt_run.proofs.RunsAgreeing.{finished_agree, runs_agree as left_agree}
 use Rattle.pt_run.specs.Agreeing.{RunsAgree}
 use Rattle.pt_words.specs.declared.orders.ClockChoice.TheVariants.{Paced}
 use Rattle.pt_run.specs.Written.{IsRun, Leaves, clocking}
 
--- a file that is told defines one graph
+-- a file with known content defines one graph
 same_ok : (g h : Graph) → ◌≡◌ {A = Result Graph GraphFault} (Ok g) (Ok h) → g ≡ h
 same_ok g h e = cc
 
-defined : (blocks : List Named) (told : Option (List ℕ)) (bytes : List ℕ) (g : Graph) → told ≡ Some bytes → IfSome told (λ bytes. graph_of blocks bytes ≡ Ok g) → graph_of blocks bytes ≡ Ok g
+defined : (blocks : List Named) (reported : Option (List ℕ)) (bytes : List ℕ) (g : Graph) → reported ≡ Some bytes → IfSome reported (λ bytes. graph_of blocks bytes ≡ Ok g) → graph_of blocks bytes ≡ Ok g
 defined blocks None bytes g e h = absurd (none_some bytes e)
-defined blocks (Some told) bytes g e h = subst (λ b. graph_of blocks b ≡ Ok g) (same_some told bytes e) h
+defined blocks (Some reported) bytes g e h = subst (λ b. graph_of blocks b ≡ Ok g) (same_some reported bytes e) h
 
-over_graph : (tells : Contents) (g h : Graph) (workers others : ℕ) (log : Bool) (left other : Leaves) (text written : List ℕ) → g ≡ h → TellsSensors tells g → IsRun tells g workers Paced log left text → IsRun tells h others Paced log other written →
+over_graph : (contents : Contents) (g h : Graph) (workers others : ℕ) (log : Bool) (left other : Leaves) (text written : List ℕ) → g ≡ h → ReportsSensors contents g → IsRun contents g workers Paced log left text → IsRun contents h others Paced log other written →
     (text ≡ written) × (left.misses ≡ other.misses) × ((i : ℕ) → histories_of left.platforms i ≡ histories_of other.platforms i)
-over_graph tells g h workers others log left other text written same files a b =
+over_graph contents g h workers others log left other text written same files a b =
     let graphs : a.plan.graph ≡ b.plan.graph = a.graph ∙ same ∙ sym b.graph in
-    let told : TellsSensors tells a.plan.graph = subst (TellsSensors tells) (sym a.graph) files in
+    let reported : ReportsSensors contents a.plan.graph = subst (ReportsSensors contents) (sym a.graph) files in
     let c = clocking workers Paced left in
     let d = clocking others Paced other in
-    let texts = finished_agree tells c d a.plan b.plan log left.platforms other.platforms left.misses other.misses text written refl refl graphs told a.finished b.finished in
-    (texts.0, texts.1, (left_agree tells c d a.plan b.plan left.platforms other.platforms None None refl refl graphs told a.finished.run b.finished.run).0)
+    let texts = finished_agree contents c d a.plan b.plan log left.platforms other.platforms left.misses other.misses text written refl refl graphs reported a.finished b.finished in
+    (texts.0, texts.1, (left_agree contents c d a.plan b.plan left.platforms other.platforms None None refl refl graphs reported a.finished.run b.finished.run).0)
 
 pub runs_agree : RunsAgree
-runs_agree workers others log tells blocks name left other text written all (g, read, run) (h, read2, run2) =
-    let one = defined blocks (tells name) all.bytes g all.told read in
-    let two = defined blocks (tells name) all.bytes h all.told read2 in
-    over_graph tells g h workers others log left other text written (same_ok g h (sym one ∙ two)) (all.files g one) run run2
+runs_agree workers others log contents blocks name left other text written all (g, read, run) (h, read2, run2) =
+    let one = defined blocks (contents name) all.bytes g all.reported read in
+    let two = defined blocks (contents name) all.bytes h all.reported read2 in
+    over_graph contents g h workers others log left other text written (same_ok g h (sym one ∙ two)) (all.files g one) run run2

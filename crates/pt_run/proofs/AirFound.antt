@@ -3,18 +3,17 @@ use Rattle.std.proofs.Common.{◌≡◌, ◌⊎◌, ℕ, List, Option, Some, Non
 use Rattle.pt_types.specs.declared.graph.Graph.{Graph}
 use Rattle.pt_blocks.specs.declared.blocks.Named.{Named}
 use Rattle.pt_graph.specs.GraphOf.{graph_of}
-use Rattle.pt_sensors.specs.Asked.{Contents, Reading}
-use Rattle.pt_air.specs.declared.air.Air.{Air}
+use Rattle.pt_io.specs.Calls.{Contents, Reading, Writing}
+use Rattle.pt_types.specs.declared.air.Air.{Air}
 use Rattle.pt_air.specs.declared.fault.AirFault.{AirFault}
 use Rattle.pt_air.specs.AirOf.{air_of}
 use Rattle.pt_run.specs.declared.fault.Fault.{Fault}
 use Rattle.pt_run.specs.declared.fault.Fault.TheVariants as fault
-use Rattle.pt_run.specs.Causes.{Writing}
 use Rattle.pt_run.proofs.ByCause.{CanReadAir, WantsAir}
 use Rattle.pt_run.specs.Leaving.{RunWith}
 use Rattle.pt_run.specs.Replaying.{LeavesReplay, OnAir}
 use Rattle.pt_words.specs.Grammar.{Order}
-use Rattle.pt_run.specs.Telling.{paced_run}
+use Rattle.pt_run.specs.Reporting.{paced_run}
 use Rattle.pt_run.specs.Written.{Leaves}
 use Rattle.pt_run.proofs.ByFault.{EndsReplay, IsCause, is_before_last}
 use Rattle.pt_run.proofs.Stages.{not_true}
@@ -27,29 +26,29 @@ unread : (sensor : Option ℕ) → WantsAir (Some (fault.Read sensor))
 unread None = inl (inl (inr refl))
 unread (Some actor) = inl (inr (actor, refl))
 
-module _ (order : Option Order) (left : Leaves) (tells : Contents) (blocks : List Named) (r : Reading) (w : Writing) (g : Graph) (bytes : List ℕ) (f : AirFault) (can : CanReadAir order tells blocks g bytes) (is : air_of g bytes ≡ Err f) where
-  here : (h : Graph) → IfSome (tells can.name) (λ content. graph_of blocks content ≡ Ok h) → h ≡ g
-  here h file = this_graph tells blocks can.name g can.begins h file
+module _ (order : Option Order) (left : Leaves) (contents : Contents) (blocks : List Named) (r : Reading) (w : Writing) (g : Graph) (bytes : List ℕ) (f : AirFault) (can : CanReadAir order contents blocks g bytes) (is : air_of g bytes ≡ Err f) where
+  here : (h : Graph) → IfSome (contents can.name) (λ content. graph_of blocks content ≡ Ok h) → h ≡ g
+  here h file = this_graph contents blocks can.name g can.begins h file
 
   -- what the recording says of the graph is that fault
-  says : (h : Graph) → h ≡ g → (d : Result Air AirFault) → IfSome (tells can.air) (λ content. air_of h content ≡ d) → Err f ≡ d
+  says : (h : Graph) → h ≡ g → (d : Result Air AirFault) → IfSome (contents can.air) (λ content. air_of h content ≡ d) → Err f ≡ d
   says h same d file =
-      agrees (air_of g) (tells can.air) bytes (Err f) d can.told (subst (λ told. IfSome told (λ content. air_of g content ≡ Err f)) (sym can.told) is)
-      (subst (λ (z : Graph). IfSome (tells can.air) (λ content. air_of z content ≡ d)) same file)
+      agrees (air_of g) (contents can.air) bytes (Err f) d can.reported (subst (λ reported. IfSome reported (λ content. air_of g content ≡ Err f)) (sym can.reported) is)
+      (subst (λ (z : Graph). IfSome (contents can.air) (λ content. air_of z content ≡ d)) same file)
 
   -- so no replay ran
-  never_ran : (o : Option Fault) → RunWith tells blocks can.name (OnAir tells can.air (LeavesReplay can.log o left w)) → ⊥
-  never_ran o k = ok_err k.over.went.recorded f (sym (says k.plan.graph (here k.plan.graph k.file) (Ok k.over.went.recorded) k.over.went.file))
+  never_ran : (o : Option Fault) → RunWith contents blocks can.name (OnAir contents can.air (LeavesReplay can.log o left w)) → ⊥
+  never_ran o k = ok_err k.over.fact.recorded f (sym (says k.plan.graph (here k.plan.graph k.file) (Ok k.over.fact.recorded) k.over.fact.file))
 
-  refused : (e : Fault) → is_before_last e ≡ true → IsCause e left paced_run tells blocks can.name r w → WantsAir (Some e)
-  refused e before k = let (sensor, same, rose) = only_unread tells blocks can.name g can.begins left r w e before k in subst (λ z. WantsAir (Some z)) (sym same) (unread sensor)
+  refused : (e : Fault) → is_before_last e ≡ true → IsCause e left paced_run contents blocks can.name r w → WantsAir (Some e)
+  refused e before k = let (sensor, same, rose) = only_unread contents blocks can.name g can.begins left r w e before k in subst (λ z. WantsAir (Some z)) (sym same) (unread sensor)
 
-  pub finds_air : (o : Option Fault) → EndsReplay o left can.name can.air can.log tells blocks r w → (o ≡ Some (fault.Air f)) ⊎ WantsAir o
+  pub finds_air : (o : Option Fault) → EndsReplay o left can.name can.air can.log contents blocks r w → (o ≡ Some (fault.Air f)) ⊎ WantsAir o
   finds_air None k = absurd (never_ran None k)
   finds_air (Some fault.Write) k = absurd (never_ran (Some fault.Write) k.1)
   finds_air (Some (fault.Long (Some platform))) k = absurd (never_ran (Some (fault.Long (Some platform))) k)
   finds_air (Some (fault.LateAir platform actor tag reading limit row)) k = absurd (never_ran (Some (fault.LateAir platform actor tag reading limit row)) k)
-  finds_air (Some (fault.Air e)) k = inl (ap (λ z. Some (fault.Air z)) (sym (same_err {X = Air} f e (says k.1.plan.graph (here k.1.plan.graph k.1.file) (Err e) k.1.over.went))))
+  finds_air (Some (fault.Air e)) k = inl (ap (λ z. Some (fault.Air z)) (sym (same_err {X = Air} f e (says k.1.plan.graph (here k.1.plan.graph k.1.file) (Err e) k.1.over.fact))))
   finds_air (Some fault.ReadAir) k = inr (inr refl)
   finds_air (Some fault.Memory) k = inr (inl (inl (inl refl)))
   finds_air (Some (fault.Graph e)) k = inr (refused (fault.Graph e) k.0 k.2)

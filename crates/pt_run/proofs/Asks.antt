@@ -11,28 +11,26 @@ use Rattle.pt_causality.specs.declared.cycle.CycleFault.{CycleFault}
 use Rattle.pt_causality.specs.declared.cycle.CycleFault.TheVariants as cycle
 use Rattle.pt_sensors.specs.declared.recorded_fault.RecordedFault.{RecordedFault}
 use Rattle.pt_sensors.specs.declared.recorded_fault.RecordedFault.TheVariants as rows
-use Rattle.pt_sensors.specs.Asked.{Asks, AsksUpTo, Contents, Reading, file_of, files_before, sensor_files}
+use Rattle.pt_sensors.specs.Asked.{Asks, AsksUpTo, file_of, files_before, sensor_files}
+use Rattle.pt_io.specs.Calls.{Contents, Reading, Writing}
 use Rattle.pt_sensors.proofs.Asking.{append_none, asks_more, asks_none}
 use Rattle.pt_turn.specs.declared.fault.TurnFault.{TurnFault}
+use Rattle.pt_turn.specs.declared.fault.TurnFault.TheVariants as turn
 use Rattle.pt_turn.specs.Platforms.{PlatformView}
-use Rattle.pt_run.specs.declared.plan_run.RunFault.{RunFault}
-use Rattle.pt_run.specs.declared.plan_run.RunFault.TheVariants as stop
-use Rattle.pt_run.specs.declared.finished_run.Ran.{Ran}
+use Rattle.pt_run.specs.declared.outputs.Outputs.{Outputs}
 use Rattle.pt_run.specs.declared.fault.Fault.{Fault}
 use Rattle.pt_run.specs.declared.fault.Fault.TheVariants as fault
 use Rattle.pt_run.specs.declared.last_file.LastFile.{LastFile}
 use Rattle.pt_run.specs.declared.last_file.LastFile.TheVariants.{Log, Air}
 use Rattle.pt_run.specs.declared.outcome.Ending.{Ending}
-use Rattle.pt_run.specs.declared.replay.Stopped.{Stopped}
+use Rattle.pt_run.specs.declared.outcome.Stopped.{Stopped}
 use Rattle.pt_words.specs.declared.orders.Command.{Command}
-use Rattle.pt_run.specs.Asks.{AreAsked, AsksAlone, AsksFrom, AsksOf, AsksOver, AsksStopped, Begins, all_sensors, actors_for}
-use Rattle.pt_run.specs.Causes.{Writing}
+use Rattle.pt_run.specs.Asks.{AreAsked, AsksAlone, AsksFrom, AsksOf, AsksOver, Begins, all_sensors, actors_for}
 use Rattle.pt_run.specs.Due.{AfterCycles, AfterOffsets, Answer, AnswersAsDue, EndsRefused, IsMeantBy, UnlessMemory}
-use Rattle.pt_run.specs.Faults.{fault_of_cycle, fault_of_graph, fault_of_rows}
-use Rattle.pt_run.specs.Flown.{EndsAsReplayed, IsOfReplay, stop_in}
+use Rattle.pt_run.specs.Faults.{fault_of_cycle, fault_of_graph, fault_of_rows, fault_of_turn}
 use Rattle.pt_run.specs.LastFiles.{unread_of}
 use Rattle.pt_run.specs.Runs.{IsStop}
-use Rattle.pt_run.specs.Texts.{HasEnded, OrMemory, PutBy, PutsOrTells, fault_in}
+use Rattle.pt_run.specs.Texts.{HasEnded, OrMemory, PutBy, PutsOrReports, fault_in, stop_in}
 use Rattle.pt_words.specs.Grammar.{Order, audit, make, migrate, over, replay}
 use Rattle.pt_run.specs.Written.{leaves_nothing}
 use Rattle.pt_run.proofs.Planned.{by_refusal}
@@ -107,21 +105,21 @@ module _ (first : List (List ℕ)) (actors : List Actor) (last : List (List ℕ)
   over_memory : (outcome : Option Fault) → AsksOver outcome first actors last before now → AsksOver (Some fault.Memory) first actors last before now
   over_memory outcome (files, are, asks) = (files, begin outcome actors last files are, asks)
 
-  over_told : (o : Option Fault) (f : Fault) → OrMemory o f → AsksOver (Some f) first actors last before now → AsksOver o first actors last before now
-  over_told o f told h =
+  over_reported : (o : Option Fault) (f : Fault) → OrMemory o f → AsksOver (Some f) first actors last before now → AsksOver o first actors last before now
+  over_reported o f reported h =
       ⊎_elim
       (λ (same : o ≡ Some f). subst (λ e. AsksOver e first actors last before now) (sym same) h)
       (λ (memory : o ≡ Some fault.Memory). subst (λ e. AsksOver e first actors last before now) (sym memory) (over_memory (Some f) h))
-      told
+      reported
 
   -- nothing more is asked for while an answer is given
-  pub given_asks : {X : Type 0} (text : X → List ℕ) (made : Result X Fault) (o : Ending) (w : Writing) → PutsOrTells text made o w → AsksOver (fault_in made) first actors last before now → AsksOver o.fault first actors last before now
+  pub given_asks : {X : Type 0} (text : X → List ℕ) (made : Result X Fault) (o : Ending) (w : Writing) → PutsOrReports text made o w → AsksOver (fault_in made) first actors last before now → AsksOver o.fault first actors last before now
   given_asks text (Ok made) o w (left, put) h = by_put o.fault put
     where
       by_put : (e : Option Fault) → PutBy e (text made) w → AsksOver e first actors last before now
       by_put None put = h
       by_put (Some f) put = subst (λ e. AsksOver (Some e) first actors last before now) (sym put.0) h
-  given_asks text (Err f) o w (left, told, same) h = over_told o.fault f told h
+  given_asks text (Err f) o w (left, reported, same) h = over_reported o.fault f reported h
 
 -- the graph has a cycle that takes no time
 pub cycle_asks : (actors : List Actor) (last : List (List ℕ)) (before now : Option (List (List ℕ))) (f : CycleFault) → now ≡ before → AsksOver (Some (fault_of_cycle f)) [] actors last before now
@@ -163,17 +161,21 @@ module _ (g : Graph) (last : List (List ℕ)) (before now : Option (List (List �
   pub memory_asked : Asks before now (all_sensors g ++ last) → AsksOver (Some fault.Memory) [] g.actors last before now
   memory_asked asks = (all_sensors g ++ last, begins_all (all_sensors g ++ last), asks)
 
--- a run whose platforms went on, finished or not
-pub went_asks : (g : Graph) (went : Option (ℕ × TurnFault)) (platforms : List PlatformView) (before now : Option (List (List ℕ))) (ran : Result Ran RunFault) → IfErr ran (IsStop went platforms) → Asks before now (all_sensors g) →
-    IfErr ran (λ f. AsksStopped f g before now) × IfOk ran (λ all. Asks before now (all_sensors g))
-went_asks g went platforms before now (Ok ran) stops all = (tt, all)
-went_asks g went platforms before now (Err f) stops all = (by_stop f stops, tt)
-  where
-    by_stop : (f : RunFault) → IsStop went platforms f → AsksStopped f g before now
-    by_stop (stop.Rows f) is = absurd is
-    by_stop (stop.Long platform left) is = all
-    by_stop (stop.Late platform actor tag reading limit left) is = all
-    by_stop stop.Memory is = all
+  -- a platform stopped the run
+  turn_asked : (platform : ℕ) (breach : Option ℕ) (f : TurnFault) → Asks before now (all_sensors g ++ last) → AsksOver (Some (fault_of_turn platform breach f)) [] g.actors last before now
+  turn_asked platform breach turn.Long asks = (all_sensors g ++ last, refl, asks)
+  turn_asked platform None (turn.Late actor tag reading limit) asks = (all_sensors g ++ last, refl, asks)
+  turn_asked platform (Some row) (turn.Late actor tag reading limit) asks = (all_sensors g ++ last, refl, asks)
+
+  -- or it finished, or memory ran out
+  pub outcome_asks : (breach : Option ℕ) (stopped : Option (ℕ × TurnFault)) (platforms : List PlatformView) (ran : Result Outputs Stopped) → IfErr ran (IsStop breach stopped platforms) → Asks before now (all_sensors g ++ last) → AsksOver (stop_in ran) [] g.actors last before now
+  outcome_asks breach stopped platforms (Ok ran) stops asks = (all_sensors g ++ last, refl, asks)
+  outcome_asks breach None platforms (Err s) stops asks = subst (λ e. AsksOver (Some e) [] g.actors last before now) (sym stops.0) (memory_asked asks)
+  outcome_asks breach (Some f) platforms (Err s) stops asks = subst (λ e. AsksOver (Some e) [] g.actors last before now) (sym stops.0) (turn_asked f.0 breach f.1 asks)
+
+-- nothing is asked for after the sensors' files
+pub all_rows_asked : (g : Graph) (before now : Option (List (List ℕ))) → Asks before now (all_sensors g) → Asks before now (all_sensors g ++ [])
+all_rows_asked g before now asks = subst (Asks before now) (sym (append_none (all_sensors g))) asks
 
 -- a meaning whose rows were available
 module _ (g : Graph) (rows : ℕ → List Row) (r : Reading) (before now : Option (List (List ℕ))) (all : Asks before now (all_sensors g)) where
@@ -181,7 +183,7 @@ module _ (g : Graph) (rows : ℕ → List Row) (r : Reading) (before now : Optio
   refused f = record { fault = Some f; left = leaves_nothing; read = r; wrote = record { before = 0; now = 0; written_before = None; written_now = None } }
 
   asks_whole : (o : Option Fault) → AreAsked o g.actors [] (all_sensors g ++ []) → AsksOver o [] g.actors [] before now
-  asks_whole o are = (all_sensors g ++ [], are, subst (Asks before now) (sym (append_none (all_sensors g))) all)
+  asks_whole o are = (all_sensors g ++ [], are, all_rows_asked g before now all)
 
   meant : (f : Fault) → UnlessMemory (refused f) (IsMeantBy g rows) → AsksOver (Some f) [] g.actors [] before now
   meant f (inl out) = subst (λ o. AsksOver o [] g.actors [] before now) (sym out.0) (asks_whole (Some fault.Memory) (begins_all (all_sensors g ++ [])))
@@ -196,42 +198,10 @@ module _ (g : Graph) (rows : ℕ → List Row) (r : Reading) (before now : Optio
   meant_asks text (Ok x) due = asks_whole None refl
   meant_asks text (Err f) due = meant f (due (refused f) refl (refl, (refl, refl), refl))
 
--- a run that ended, finished or not
-pub run_asks : (ran : Result Ran RunFault) (o : Ending) (w : Writing) (g plan_graph : Graph) (before now : Option (List (List ℕ))) → plan_graph ≡ g → HasEnded ran o w → IfErr ran (λ f. AsksStopped f plan_graph before now) →
-    IfOk ran (λ all. Asks before now (all_sensors plan_graph)) → AsksOver o.fault [] g.actors [] before now
-run_asks ran o w g plan_graph before now same ended part whole =
-    by_ran ran ended (subst (λ (z : Graph). IfErr ran (λ f. AsksStopped f z before now)) same part) (subst (λ (z : Graph). IfOk ran (λ all. Asks before now (all_sensors z))) same whole)
-  where
-    Goal : Option Fault → Type 0
-    Goal e = AsksOver e [] g.actors [] before now
-
-    to_end : Asks before now (all_sensors g) → Asks before now (all_sensors g ++ [])
-    to_end all = subst (Asks before now) (sym (append_none (all_sensors g))) all
-
-    at : (e : Option Fault) → o.fault ≡ e → Goal e → Goal o.fault
-    at e is h = subst Goal (sym is) h
-
-    by_ran : (j : Result Ran RunFault) → HasEnded j o w → IfErr j (λ f. AsksStopped f g before now) → IfOk j (λ all. Asks before now (all_sensors g)) → Goal o.fault
-    by_ran (Ok ran) h part all = ⊎_elim (λ done. at None done.0 (all_sensors g ++ [], refl, to_end all)) (λ part. at (Some fault.Write) part.0 (all_sensors g ++ [], refl, to_end all)) h
-    by_ran (Err (stop.Rows f)) h files none = over_told [] g.actors [] before now o.fault (fault_of_rows f) h.0.0 (rows_asked g [] before now f files)
-    by_ran (Err (stop.Long platform left)) h all none =
-        ⊎_elim (λ is. at (Some (fault.Long (Some platform))) is.0 (all_sensors g ++ [], refl, to_end all)) (λ memory. at (Some fault.Memory) memory.0 (memory_asked g [] before now (to_end all))) h.0
-    by_ran (Err (stop.Late platform actor tag reading limit left)) h all none =
-        ⊎_elim (λ is. at (Some (fault.LateMessage platform actor tag reading limit)) is.0 (all_sensors g ++ [], refl, to_end all)) (λ memory. at (Some fault.Memory) memory.0 (memory_asked g [] before now (to_end all))) h.0
-    by_ran (Err stop.Memory) h all none = at (Some fault.Memory) h.0.0 (memory_asked g [] before now (to_end all))
-
--- a replay that began, by how its run ended; `none` says that its rows were available
-pub flown_asks : (f : RunFault) (breach : Option ℕ) (e : Fault) (left : List PlatformView) (g : Graph) (last : List (List ℕ)) (before now : Option (List (List ℕ))) → ((r : RecordedFault) → f ≢ stop.Rows r) → IsOfReplay f breach e left → Asks before now (all_sensors g ++ last) →
-    AsksOver (Some e) [] g.actors last before now
-flown_asks (stop.Rows r) breach e left g last before now none of all = absurd (none r refl)
-flown_asks (stop.Long platform ps) breach e left g last before now none of all = subst (λ z. AsksOver (Some z) [] g.actors last before now) (sym of.0) (all_sensors g ++ last, refl, all)
-flown_asks (stop.Late platform actor tag reading limit ps) breach e left g last before now none of all = subst (λ z. AsksOver (Some z) [] g.actors last before now) (sym of.2) (all_sensors g ++ last, refl, all)
-flown_asks stop.Memory breach e left g last before now none of all = subst (λ z. AsksOver (Some z) [] g.actors last before now) (sym of.0) (memory_asked g last before now all)
-
--- nothing more is asked for once a replay ended
-pub replayed_asks : (ran : Result Ran Stopped) (o : Ending) (w : Writing) (actors : List Actor) (last : List (List ℕ)) (before now : Option (List (List ℕ))) → EndsAsReplayed ran o w → AsksOver (stop_in ran) [] actors last before now → AsksOver o.fault [] actors last before now
-replayed_asks (Ok ran) o w actors last before now ends h = ⊎_elim (λ all. subst (λ e. AsksOver e [] actors last before now) (sym all.0) h) (λ part. subst (λ e. AsksOver e [] actors last before now) (sym part.0) h) ends
-replayed_asks (Err s) o w actors last before now ends h =
+-- nothing more is asked for once a run or a replay ended
+pub ended_asks : (ran : Result Outputs Stopped) (o : Ending) (w : Writing) (actors : List Actor) (last : List (List ℕ)) (before now : Option (List (List ℕ))) → HasEnded ran o w → AsksOver (stop_in ran) [] actors last before now → AsksOver o.fault [] actors last before now
+ended_asks (Ok ran) o w actors last before now ends h = ⊎_elim (λ all. subst (λ e. AsksOver e [] actors last before now) (sym all.0) h) (λ part. subst (λ e. AsksOver e [] actors last before now) (sym part.0) h) ends
+ended_asks (Err s) o w actors last before now ends h =
     ⊎_elim
     (λ is. subst (λ e. AsksOver e [] actors last before now) (sym is.0) h)
     (λ memory. subst (λ e. AsksOver e [] actors last before now) (sym memory.0) (over_memory [] actors last before now (Some s.fault) h))
@@ -239,13 +209,13 @@ replayed_asks (Err s) o w actors last before now ends h =
 
 -- From the graph file on.
 
-module _ (tells : Contents) (blocks : List Named) (name : List ℕ) (actors : Graph → List Actor) (last : List (List ℕ)) (first now : Option (List (List ℕ))) where
+module _ (contents : Contents) (blocks : List Named) (name : List ℕ) (actors : Graph → List Actor) (last : List (List ℕ)) (first now : Option (List (List ℕ))) where
   -- it defines this graph
-  pub asks_on : (g : Graph) (outcome : Option Fault) (asked : Option (List (List ℕ))) → IfSome (tells name) (λ bytes. graph_of blocks bytes ≡ Ok g) → Asks first asked (name ∷ []) → AsksOver outcome [] (actors g) last asked now → AsksFrom outcome tells blocks name actors last first now
+  pub asks_on : (g : Graph) (outcome : Option Fault) (asked : Option (List (List ℕ))) → IfSome (contents name) (λ bytes. graph_of blocks bytes ≡ Ok g) → Asks first asked (name ∷ []) → AsksOver outcome [] (actors g) last asked now → AsksFrom outcome contents blocks name actors last first now
   asks_on g outcome asked read asks (files, are, more) = inr (g, read, (files, are, asks_more first asked now (name ∷ []) files asks more))
 
   -- and no other file is to be asked for
-  pub asks_only : (g : Graph) (outcome : Option Fault) → IfSome (tells name) (λ bytes. graph_of blocks bytes ≡ Ok g) → Asks first now (name ∷ []) → AsksFrom outcome tells blocks name (λ g. []) [] first now
+  pub asks_only : (g : Graph) (outcome : Option Fault) → IfSome (contents name) (λ bytes. graph_of blocks bytes ≡ Ok g) → Asks first now (name ∷ []) → AsksFrom outcome contents blocks name (λ g. []) [] first now
   asks_only g outcome read asks = inr (g, read, ([], none_to_ask outcome, subst (Asks first now) (sym (append_none (name ∷ []))) asks))
 
   -- it gave no graph
@@ -255,20 +225,20 @@ module _ (tells : Contents) (blocks : List Named) (name : List ℕ) (actors : Gr
   alone_memory (Some fault.Memory) h = h
   alone_memory outcome h = absurd h
 
-  from_memory : (outcome : Option Fault) → AsksFrom outcome tells blocks name actors last first now → AsksFrom (Some fault.Memory) tells blocks name actors last first now
+  from_memory : (outcome : Option Fault) → AsksFrom outcome contents blocks name actors last first now → AsksFrom (Some fault.Memory) contents blocks name actors last first now
   from_memory outcome (inl h) = inl (alone_memory outcome h)
   from_memory outcome (inr (g, read, h)) = inr (g, read, over_memory (name ∷ []) (actors g) last first now outcome h)
 
   -- its fault, or that there is no memory for its line
-  pub from_told : (outcome : Option Fault) (f told : Fault) → outcome ≡ Some told → (told ≡ f) ⊎ (told ≡ fault.Memory) → AsksFrom (Some f) tells blocks name actors last first now → AsksFrom outcome tells blocks name actors last first now
-  from_told outcome f told is tell h = subst (λ o. AsksFrom o tells blocks name actors last first now) (sym is)
+  pub from_reported : (outcome : Option Fault) (f reported : Fault) → outcome ≡ Some reported → (reported ≡ f) ⊎ (reported ≡ fault.Memory) → AsksFrom (Some f) contents blocks name actors last first now → AsksFrom outcome contents blocks name actors last first now
+  from_reported outcome f reported is report h = subst (λ o. AsksFrom o contents blocks name actors last first now) (sym is)
       (⊎_elim
-      (λ (same : told ≡ f). subst (λ e. AsksFrom (Some e) tells blocks name actors last first now) (sym same) h)
-      (λ (memory : told ≡ fault.Memory). subst (λ e. AsksFrom (Some e) tells blocks name actors last first now) (sym memory) (from_memory (Some f) h))
-      tell)
+      (λ (same : reported ≡ f). subst (λ e. AsksFrom (Some e) contents blocks name actors last first now) (sym same) h)
+      (λ (memory : reported ≡ fault.Memory). subst (λ e. AsksFrom (Some e) contents blocks name actors last first now) (sym memory) (from_memory (Some f) h))
+      report)
 
-  pub from_graph : (outcome : Option Fault) (f told : Fault) → outcome ≡ Some told → (told ≡ f) ⊎ (told ≡ fault.Memory) → AsksAlone (Some f) name first now → AsksFrom outcome tells blocks name actors last first now
-  from_graph outcome f told is tell h = from_told outcome f told is tell (inl h)
+  pub from_graph : (outcome : Option Fault) (f reported : Fault) → outcome ≡ Some reported → (reported ≡ f) ⊎ (reported ≡ fault.Memory) → AsksAlone (Some f) name first now → AsksFrom outcome contents blocks name actors last first now
+  from_graph outcome f reported is report h = from_reported outcome f reported is report (inl h)
 
 -- the graph file was fetched and has a fault
 pub alone_asks : (f : GraphFault) (name : List ℕ) (before now : Option (List (List ℕ))) → Asks before now (name ∷ []) → AsksAlone (Some (fault_of_graph f)) name before now
@@ -276,10 +246,10 @@ alone_asks graph.Memory name before now asks = inr asks
 alone_asks f name before now asks = asks
 
 -- memory ran out before the words were read
-pub asked_nothing : (order : Option Order) (outcome : Option Fault) (tells : Contents) (blocks : List Named) (r : Reading) → outcome ≡ Some fault.Memory → Asks r.asked_before r.asked_now [] → AsksOf outcome order tells blocks r
-asked_nothing None outcome tells blocks r is h = h
-asked_nothing (Some (over command name)) outcome tells blocks r is h = subst (λ o. AsksOf o (Some (over command name)) tells blocks r) (sym is) (inl (inl h))
-asked_nothing (Some (make number workers)) outcome tells blocks r is h = h
-asked_nothing (Some (migrate name)) outcome tells blocks r is h = subst (λ o. AsksOf o (Some (migrate name)) tells blocks r) (sym is) (inl (inl h))
-asked_nothing (Some (audit name log)) outcome tells blocks r is h = subst (λ o. AsksOf o (Some (audit name log)) tells blocks r) (sym is) (inl (inl h))
-asked_nothing (Some (replay name air workers log)) outcome tells blocks r is h = subst (λ o. AsksOf o (Some (replay name air workers log)) tells blocks r) (sym is) (inl (inl h))
+pub asked_nothing : (order : Option Order) (outcome : Option Fault) (contents : Contents) (blocks : List Named) (r : Reading) → outcome ≡ Some fault.Memory → Asks r.asked_before r.asked_now [] → AsksOf outcome order contents blocks r
+asked_nothing None outcome contents blocks r is h = h
+asked_nothing (Some (over command name)) outcome contents blocks r is h = subst (λ o. AsksOf o (Some (over command name)) contents blocks r) (sym is) (inl (inl h))
+asked_nothing (Some (make number workers)) outcome contents blocks r is h = h
+asked_nothing (Some (migrate name)) outcome contents blocks r is h = subst (λ o. AsksOf o (Some (migrate name)) contents blocks r) (sym is) (inl (inl h))
+asked_nothing (Some (audit name log)) outcome contents blocks r is h = subst (λ o. AsksOf o (Some (audit name log)) contents blocks r) (sym is) (inl (inl h))
+asked_nothing (Some (replay name air workers log)) outcome contents blocks r is h = subst (λ o. AsksOf o (Some (replay name air workers log)) contents blocks r) (sym is) (inl (inl h))

@@ -9,7 +9,7 @@ use Rattle.pt_offsets.specs.Plans.{Parts}
 use Rattle.pt_offsets.specs.Margins.{IsFirstInfeasible}
 use Rattle.pt_semantics.specs.Cycles.{NoFreeCycle}
 use Rattle.pt_sensors.specs.declared.recorded_fault.LateRows.TheVariants.{Refused}
-use Rattle.pt_sensors.specs.Asked.{Contents, Reading}
+use Rattle.pt_io.specs.Calls.{Contents, Reading, Writing}
 use Rattle.pt_sensors.specs.Places.{of_run}
 use Rattle.pt_sensors.specs.Recorded.{SensorFails, SensorLate}
 use Rattle.pt_audit.specs.LawfulLogs.{IsLawfulLog}
@@ -17,7 +17,6 @@ use Rattle.pt_audit.specs.declared.verdict.Verdict.{Verdict}
 use Rattle.pt_run.specs.declared.fault.Fault.{Fault}
 use Rattle.pt_run.specs.declared.fault.Fault.TheVariants as fault
 use Rattle.pt_run.specs.Auditing.{Accepts, IsUnlawful, OnLog, Refuses}
-use Rattle.pt_run.specs.Causes.{Writing}
 use Rattle.pt_run.specs.Complete.{CanBegin}
 use Rattle.pt_run.proofs.ByCause.{CanAudit, WantsLog}
 use Rattle.pt_run.specs.Leaving.{RunWith}
@@ -44,33 +43,33 @@ pub data Audited (plan : Parts) (rows : ℕ → List Row) (bytes : List ℕ) (ou
 of_content : (content : Option (List ℕ)) (bytes : List ℕ) (Fact : List ℕ → Type 0) → content ≡ Some bytes → IfSome content Fact → Fact bytes
 of_content content bytes Fact is h = subst (λ c. IfSome c Fact) is h
 
-module _ (order : Option Order) (left : Leaves) (tells : Contents) (blocks : List Named) (r : Reading) (w : Writing) (plan : Parts) (rows : ℕ → List Row) (bytes : List ℕ) (can : CanAudit order tells blocks plan rows bytes) where
-  abbrev begins : CanBegin tells blocks can.name plan.graph
+module _ (order : Option Order) (left : Leaves) (contents : Contents) (blocks : List Named) (r : Reading) (w : Writing) (plan : Parts) (rows : ℕ → List Row) (bytes : List ℕ) (can : CanAudit order contents blocks plan rows bytes) where
+  abbrev begins : CanBegin contents blocks can.name plan.graph
   begins = can.begins
 
-  file : (d : Result Graph GraphFault) → IfSome (tells can.name) (λ bytes. graph_of blocks bytes ≡ d) → Ok plan.graph ≡ d
-  file d other = agrees (graph_of blocks) (tells can.name) begins.bytes (Ok plan.graph) d begins.told (subst (λ z. IfSome z (λ bytes. graph_of blocks bytes ≡ Ok plan.graph)) (sym begins.told) begins.graph) other
+  file : (d : Result Graph GraphFault) → IfSome (contents can.name) (λ bytes. graph_of blocks bytes ≡ d) → Ok plan.graph ≡ d
+  file d other = agrees (graph_of blocks) (contents can.name) begins.bytes (Ok plan.graph) d begins.reported (subst (λ z. IfSome z (λ bytes. graph_of blocks bytes ≡ Ok plan.graph)) (sym begins.reported) begins.graph) other
 
-  this_graph : (g : Graph) → IfSome (tells can.name) (λ bytes. graph_of blocks bytes ≡ Ok g) → plan.graph ≡ g
+  this_graph : (g : Graph) → IfSome (contents can.name) (λ bytes. graph_of blocks bytes ≡ Ok g) → plan.graph ≡ g
   this_graph g other = same_ok {E = GraphFault} plan.graph g (file (Ok g) other)
 
-  module _ (Fact : Parts → (ℕ → List Row) → List ℕ → Type 0) (h : RunWith tells blocks can.name (OnLog tells can.log Fact)) where
+  module _ (Fact : Parts → (ℕ → List Row) → List ℕ → Type 0) (h : RunWith contents blocks can.name (OnLog contents can.log Fact)) where
     graphs : plan.graph ≡ h.plan.graph
     graphs = this_graph h.plan.graph h.file
 
     over_rows : of_run h.plan.graph h.over.rows ≡ rows
-    over_rows = same_rows tells plan.graph h.plan.graph begins.rows h.over.rows graphs begins.files begins.sensors h.over.sensors ∙ sym can.over
+    over_rows = same_rows contents plan.graph h.plan.graph begins.rows h.over.rows graphs begins.files begins.sensors h.over.sensors ∙ sym can.over
 
     found_fact : Fact h.plan rows bytes
-    found_fact = subst (λ (rs : ℕ → List Row). Fact h.plan rs bytes) over_rows (of_content (tells can.log) bytes (Fact h.plan (of_run h.plan.graph h.over.rows)) can.told h.over.went)
+    found_fact = subst (λ (rs : ℕ → List Row). Fact h.plan rs bytes) over_rows (of_content (contents can.log) bytes (Fact h.plan (of_run h.plan.graph h.over.rows)) can.reported h.over.fact)
 
-  accepted_here : RunWith tells blocks can.name (OnLog tells can.log Accepts) → Accepts plan rows bytes
+  accepted_here : RunWith contents blocks can.name (OnLog contents can.log Accepts) → Accepts plan rows bytes
   accepted_here h = same_accepted h.plan plan rows bytes h.over.admitted can.admitted (sym (graphs Accepts h)) (found_fact Accepts h)
 
-  unlawful_here : (v : Verdict) → RunWith tells blocks can.name (OnLog tells can.log (λ p rs bs. IsUnlawful p rs bs v)) → IsUnlawful plan rows bytes v
+  unlawful_here : (v : Verdict) → RunWith contents blocks can.name (OnLog contents can.log (λ p rs bs. IsUnlawful p rs bs v)) → IsUnlawful plan rows bytes v
   unlawful_here v h = same_unlawful h.plan plan rows bytes h.over.admitted can.admitted (sym (graphs (λ p rs bs. IsUnlawful p rs bs v) h)) v (found_fact (λ p rs bs. IsUnlawful p rs bs v) h)
 
-  pub audited : (o : Option Fault) → EndsAudit o left can.name can.log tells blocks r w → Audited plan rows bytes o
+  pub audited : (o : Option Fault) → EndsAudit o left can.name can.log contents blocks r w → Audited plan rows bytes o
   audited None k = found (inl refl) (accepted_here k.1)
   audited (Some fault.Write) k = found (inr refl) (accepted_here k.1)
   audited (Some (fault.Unlawful v)) k = refused v refl (unlawful_here v k.1)
@@ -88,10 +87,10 @@ module _ (order : Option Order) (left : Leaves) (tells : Contents) (blocks : Lis
       absurd (too_late plan.graph send slack offset begins.feasible (subst (λ (z : Graph). IsFirstInfeasible z send offset slack) (sym (this_graph g other)) cause.1.0))
   audited (Some (fault.Sensor actor f)) k =
       let (g, other, cause) = k.2.0 in
-      absurd (fails_all tells plan.graph begins.files Refused actor f (subst (λ (z : Graph). SensorFails Refused tells z actor f) (sym (this_graph g other)) cause.1.1) (begins.rows, begins.sensors, begins.in_time))
+      absurd (fails_all contents plan.graph begins.files Refused actor f (subst (λ (z : Graph). SensorFails Refused contents z actor f) (sym (this_graph g other)) cause.1.1) (begins.rows, begins.sensors, begins.in_time))
   audited (Some (fault.LateRow actor row seen limit)) k =
       let (g, other, cause) = k.2.0 in
-      absurd (late_all tells plan.graph begins.files actor row seen limit (subst (λ (z : Graph). SensorLate tells z actor row seen limit) (sym (this_graph g other)) cause.1.1) (begins.rows, begins.sensors, begins.in_time))
+      absurd (late_all contents plan.graph begins.files actor row seen limit (subst (λ (z : Graph). SensorLate contents z actor row seen limit) (sym (this_graph g other)) cause.1.1) (begins.rows, begins.sensors, begins.in_time))
   audited (Some fault.Usage) k = absurd (not_true k.0)
   audited (Some (fault.Ring sends gain)) k = absurd (not_true k.0)
   audited (Some (fault.LateAir platform actor tag reading limit row)) k = absurd (not_true k.0)

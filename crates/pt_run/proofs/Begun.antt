@@ -6,32 +6,31 @@ use Rattle.pt_blocks.specs.declared.blocks.Named.{Named}
 use Rattle.pt_causality.specs.Ranked.{IsFreeCycle}
 use Rattle.pt_offsets.specs.Margins.{IsFirstInfeasible}
 use Rattle.pt_sensors.specs.declared.recorded_fault.LateRows.TheVariants.{Refused}
-use Rattle.pt_sensors.specs.Asked.{Contents, Reading}
+use Rattle.pt_io.specs.Calls.{Contents, Reading, Writing}
 use Rattle.pt_sensors.specs.Recorded.{SensorFails, SensorLate}
 use Rattle.pt_run.specs.declared.fault.Fault.{Fault}
 use Rattle.pt_run.specs.declared.fault.Fault.TheVariants as fault
-use Rattle.pt_run.specs.Causes.{Writing}
 use Rattle.pt_run.specs.Complete.{CanBegin}
-use Rattle.pt_run.specs.Telling.{paced_run}
+use Rattle.pt_run.specs.Reporting.{paced_run}
 use Rattle.pt_run.specs.Written.{Leaves}
 use Rattle.pt_run.proofs.ByFault.{IsCause, is_before_last}
 use Rattle.pt_run.proofs.Stages.{not_true}
 use Rattle.pt_run.proofs.Complete.{no_fault, sensor_fails, sensor_late, this_graph, too_late}
 
-module _ (tells : Contents) (blocks : List Named) (name : List ℕ) (g : Graph) (can : CanBegin tells blocks name g) (left : Leaves) (r : Reading) (w : Writing) where
-  pub only_unread : (f : Fault) → is_before_last f ≡ true → IsCause f left paced_run tells blocks name r w → (sensor : Option ℕ) × (f ≡ fault.Read sensor) × Rose r.before r.now
-  only_unread (fault.Graph f) before k = absurd (no_fault tells blocks name g can f k.0)
+module _ (contents : Contents) (blocks : List Named) (name : List ℕ) (g : Graph) (can : CanBegin contents blocks name g) (left : Leaves) (r : Reading) (w : Writing) where
+  pub only_unread : (f : Fault) → is_before_last f ≡ true → IsCause f left paced_run contents blocks name r w → (sensor : Option ℕ) × (f ≡ fault.Read sensor) × Rose r.before r.now
+  only_unread (fault.Graph f) before k = absurd (no_fault contents blocks name g can f k.0)
   only_unread (fault.Cycle actors) before ((h, file, cause), same) =
-      let cycle : IsFreeCycle g actors = subst (λ (z : Graph). IsFreeCycle z actors) (this_graph tells blocks name g can h file) cause.0 in
+      let cycle : IsFreeCycle g actors = subst (λ (z : Graph). IsFreeCycle z actors) (this_graph contents blocks name g can h file) cause.0 in
       absurd (can.no_free_cycle cycle.first cycle.edge cycle.path cycle.cycle cycle.free)
   only_unread (fault.Infeasible send offset slack) before ((h, file, cause), same) =
-      absurd (too_late g send slack offset can.feasible (subst (λ (z : Graph). IsFirstInfeasible z send offset slack) (this_graph tells blocks name g can h file) cause.1.0))
+      absurd (too_late g send slack offset can.feasible (subst (λ (z : Graph). IsFirstInfeasible z send offset slack) (this_graph contents blocks name g can h file) cause.1.0))
   only_unread (fault.Read None) before k = (None, refl, k.0.rose)
   only_unread (fault.Read (Some actor)) before ((h, file, cause), same) = (Some actor, refl, cause.1.1.failed.rose)
   only_unread (fault.Sensor actor f) before ((h, file, cause), same) =
-      absurd (sensor_fails tells blocks name g can actor f (subst (λ (z : Graph). SensorFails Refused tells z actor f) (this_graph tells blocks name g can h file) cause.1.1))
+      absurd (sensor_fails contents blocks name g can actor f (subst (λ (z : Graph). SensorFails Refused contents z actor f) (this_graph contents blocks name g can h file) cause.1.1))
   only_unread (fault.LateRow actor row seen limit) before ((h, file, cause), same) =
-      absurd (sensor_late tells blocks name g can actor row seen limit (subst (λ (z : Graph). SensorLate tells z actor row seen limit) (this_graph tells blocks name g can h file) cause.1.1))
+      absurd (sensor_late contents blocks name g can actor row seen limit (subst (λ (z : Graph). SensorLate contents z actor row seen limit) (this_graph contents blocks name g can h file) cause.1.1))
   only_unread fault.Usage before k = absurd (not_true before)
   only_unread (fault.Ring sends gain) before k = absurd (not_true before)
   only_unread (fault.LateMessage platform actor tag reading limit) before k = absurd (not_true before)

@@ -14,12 +14,12 @@ use Rattle.pt_sensors.specs.declared.fault.RowFault.{RowFault}
 use Rattle.pt_semantics.specs.Cycles.{NoFreeCycle}
 use Rattle.pt_semantics.specs.Offsets.{IsFeasible}
 use Rattle.pt_offsets.specs.Plans.{IsAdmitted, Parts}
-use Rattle.pt_sensors.specs.Asked.{Contents}
+use Rattle.pt_io.specs.Calls.{Contents}
 use Rattle.pt_sensors.specs.Places.{of_run}
 use Rattle.pt_sensors.specs.Recorded.{AreRows, SensorFails, SensorLate}
 use Rattle.pt_slacks.specs.Rings.{IsRing}
 use Rattle.pt_slacks.specs.Slacks.{Admits}
-use Rattle.pt_run.specs.RunsAgreeing.{TellsSensors}
+use Rattle.pt_run.specs.RunsAgreeing.{ReportsSensors}
 use Rattle.pt_words.specs.declared.orders.ClockChoice.{ClockChoice}
 use Rattle.pt_run.specs.declared.fault.Fault.{Fault}
 use Rattle.pt_run.specs.declared.fault.Fault.TheVariants as fault
@@ -30,7 +30,7 @@ use Rattle.pt_run.proofs.CauseFields.{AsksFeasible, OfRows}
 use Rattle.pt_air.specs.declared.fault.AirFault.{AirFault}
 use Rattle.pt_air.specs.AirOf.{air_of}
 use Rattle.pt_run.specs.Auditing.{Refuses}
-use Rattle.pt_run.specs.Telling.{paced_run}
+use Rattle.pt_run.specs.Reporting.{paced_run}
 use Rattle.pt_run.specs.Complete.{CanBegin}
 use Rattle.pt_words.specs.Grammar.{Order, over, migrate, audit, replay}
 
@@ -61,67 +61,67 @@ refused_as (Some (replay graph air workers log)) = Some (over paced_run graph)
 refused_as order = order
 
 -- the words give this order for a graph file whose content is known, and it defines this graph or has this fault
-pub record Defines (order : Option Order) (tells : Contents) (blocks : List Named) (order_for : List ℕ → Order) (defined : Result Graph GraphFault) : Type 0 where
+pub record Defines (order : Option Order) (contents : Contents) (blocks : List Named) (order_for : List ℕ → Order) (defined : Result Graph GraphFault) : Type 0 where
   pub name : List ℕ
   pub words : order ≡ Some (order_for name)
   pub bytes : List ℕ
-  pub told : tells name ≡ Some bytes
+  pub reported : contents name ≡ Some bytes
   pub defines : graph_of blocks bytes ≡ defined
 
 -- the words are this command on a file that defines this graph, in which each cycle takes time; each sender can send in
 -- time, if the command refuses others; and the contents of all sensors' files are known
-pub record ReadsRows (order : Option Order) (tells : Contents) (blocks : List Named) (command : Command) (g : Graph) : Type 0 where
-  pub graph : Defines (refused_as order) tells blocks (over command) (Ok g)
+pub record ReadsRows (order : Option Order) (contents : Contents) (blocks : List Named) (command : Command) (g : Graph) : Type 0 where
+  pub graph : Defines (refused_as order) contents blocks (over command) (Ok g)
   pub no_free_cycle : NoFreeCycle g
   pub feasible : AsksFeasible command → IsFeasible g
-  pub files : TellsSensors tells g
+  pub files : ReportsSensors contents g
 
 -- the words are an audit of a log with this content, on a file that defines the graph of this admitted plan, and a run of it can
 -- begin over these rows
-pub record CanAudit (order : Option Order) (tells : Contents) (blocks : List Named) (plan : Parts) (rows : ℕ → List Row) (bytes : List ℕ) : Type 0 where
+pub record CanAudit (order : Option Order) (contents : Contents) (blocks : List Named) (plan : Parts) (rows : ℕ → List Row) (bytes : List ℕ) : Type 0 where
   pub name : List ℕ
   pub log : List ℕ
   pub words : order ≡ Some (audit name log)
   pub admitted : IsAdmitted plan
-  pub begins : CanBegin tells blocks name plan.graph
+  pub begins : CanBegin contents blocks name plan.graph
   pub over : rows ≡ of_run plan.graph begins.rows
-  pub told : tells log ≡ Some bytes
+  pub reported : contents log ≡ Some bytes
 
 -- the words are a replay with a recording with this content, on a file that defines this graph, and a run of it can begin
-pub record CanReadAir (order : Option Order) (tells : Contents) (blocks : List Named) (g : Graph) (bytes : List ℕ) : Type 0 where
+pub record CanReadAir (order : Option Order) (contents : Contents) (blocks : List Named) (g : Graph) (bytes : List ℕ) : Type 0 where
   pub name : List ℕ
   pub air : List ℕ
   pub workers : ℕ
   pub log : Bool
   pub words : order ≡ Some (replay name air workers log)
-  pub begins : CanBegin tells blocks name g
-  pub told : tells air ≡ Some bytes
+  pub begins : CanBegin contents blocks name g
+  pub reported : contents air ≡ Some bytes
 
 -- each cause that the words and the known files decide gives its answer
-pub record ComesByCause (outcome : Option Fault) (order : Option Order) (tells : Contents) (blocks : List Named) : Type 0 where
+pub record ComesByCause (outcome : Option Fault) (order : Option Order) (contents : Contents) (blocks : List Named) : Type 0 where
   -- the words are not a valid command line
   pub usage : order ≡ None → (outcome ≡ Some fault.Usage) ⊎ WantsMemory outcome
   -- the graph's text has that fault, or some actors are a cycle that takes no time
-  pub graph : (command : Command) (f : GraphFault) → Defines (refused_as order) tells blocks (over command) (Err f) → (outcome ≡ Some (fault.Graph f)) ⊎ WantsGraph outcome
-  pub cycle : (command : Command) (g : Graph) → Defines (refused_as order) tells blocks (over command) (Ok g) → (NoFreeCycle g → ⊥) → ((actors : List ℕ) × IsFreeCycle g actors × (outcome ≡ Some (fault.Cycle actors))) ⊎ WantsGraph outcome
+  pub graph : (command : Command) (f : GraphFault) → Defines (refused_as order) contents blocks (over command) (Err f) → (outcome ≡ Some (fault.Graph f)) ⊎ WantsGraph outcome
+  pub cycle : (command : Command) (g : Graph) → Defines (refused_as order) contents blocks (over command) (Ok g) → (NoFreeCycle g → ⊥) → ((actors : List ℕ) × IsFreeCycle g actors × (outcome ≡ Some (fault.Cycle actors))) ⊎ WantsGraph outcome
   -- that sender is the first that can't send in time, and the command refuses it
-  pub infeasible : (command : Command) (g : Graph) (send : ℕ) (offset : ℤ) (slack : ℕ) → AsksFeasible command → Defines (refused_as order) tells blocks (over command) (Ok g) → NoFreeCycle g → IsFirstInfeasible g send offset slack →
+  pub infeasible : (command : Command) (g : Graph) (send : ℕ) (offset : ℤ) (slack : ℕ) → AsksFeasible command → Defines (refused_as order) contents blocks (over command) (Ok g) → NoFreeCycle g → IsFirstInfeasible g send offset slack →
       (outcome ≡ Some (fault.Infeasible send offset slack)) ⊎ WantsGraph outcome
   -- with no slacks can each sender send in time, so a ring is named; if with some they can, `slacks` writes the least, unless a
   -- write fails. The blocks are those of a `Blocks`
-  pub ring : (g : Graph) → Defines order tells blocks (over Slacks) (Ok g) → NoFreeCycle g → ((slack : ℕ → ℕ) → Admits g slack → ⊥) → ((sends : List ℕ) × (gain : ℕ) × IsRing g sends gain × (outcome ≡ Some (fault.Ring sends gain))) ⊎ WantsGraph outcome
-  pub slacked : (g : Graph) (slack : ℕ → ℕ) → AreBlocks blocks → Defines order tells blocks (over Slacks) (Ok g) → NoFreeCycle g → Admits g slack → ((outcome ≡ None) ⊎ (outcome ≡ Some fault.Write)) ⊎ WantsGraph outcome
+  pub ring : (g : Graph) → Defines order contents blocks (over Slacks) (Ok g) → NoFreeCycle g → ((slack : ℕ → ℕ) → Admits g slack → ⊥) → ((sends : List ℕ) × (gain : ℕ) × IsRing g sends gain × (outcome ≡ Some (fault.Ring sends gain))) ⊎ WantsGraph outcome
+  pub slacked : (g : Graph) (slack : ℕ → ℕ) → AreBlocks blocks → Defines order contents blocks (over Slacks) (Ok g) → NoFreeCycle g → Admits g slack → ((outcome ≡ None) ⊎ (outcome ≡ Some fault.Write)) ⊎ WantsGraph outcome
   -- that sensor is the first without rows: its file has that fault, or that row is late, which `meaning` accepts
-  pub sensor : (command : Command) (g : Graph) (actor : ℕ) (f : RowFault) → ReadsRows order tells blocks command g → OfRows command (λ late. SensorFails late tells g actor f) → (outcome ≡ Some (fault.Sensor actor f)) ⊎ WantsRows outcome
-  pub late_row : (workers : ℕ) (clock : ClockChoice) (log : Bool) (g : Graph) (actor row seen limit : ℕ) → ReadsRows order tells blocks (Run workers clock log) g → SensorLate tells g actor row seen limit → (outcome ≡ Some (fault.LateRow actor row seen limit)) ⊎ WantsRows outcome
+  pub sensor : (command : Command) (g : Graph) (actor : ℕ) (f : RowFault) → ReadsRows order contents blocks command g → OfRows command (λ late. SensorFails late contents g actor f) → (outcome ≡ Some (fault.Sensor actor f)) ⊎ WantsRows outcome
+  pub late_row : (workers : ℕ) (clock : ClockChoice) (log : Bool) (g : Graph) (actor row seen limit : ℕ) → ReadsRows order contents blocks (Run workers clock log) g → SensorLate contents g actor row seen limit → (outcome ≡ Some (fault.LateRow actor row seen limit)) ⊎ WantsRows outcome
   -- the meaning of these rows is too long
-  pub long_meaning : (g : Graph) (rows : ℕ → List Row) → ReadsRows order tells blocks Meaning g → AreRows tells g rows → IsTooLongForAll g rows → (outcome ≡ Some (fault.Long None)) ⊎ WantsRows outcome
+  pub long_meaning : (g : Graph) (rows : ℕ → List Row) → ReadsRows order contents blocks Meaning g → AreRows contents g rows → IsTooLongForAll g rows → (outcome ≡ Some (fault.Long None)) ⊎ WantsRows outcome
   -- `migrate` answers a fault of the graph's text too, and writes any graph that the text defines, unless a write fails
-  pub unmigrated : (f : GraphFault) → Defines order tells blocks migrate (Err f) → (outcome ≡ Some (fault.Graph f)) ⊎ WantsGraph outcome
-  pub migrated : (g : Graph) → Defines order tells blocks migrate (Ok g) → ((outcome ≡ None) ⊎ (outcome ≡ Some fault.Write)) ⊎ WantsGraph outcome
+  pub unmigrated : (f : GraphFault) → Defines order contents blocks migrate (Err f) → (outcome ≡ Some (fault.Graph f)) ⊎ WantsGraph outcome
+  pub migrated : (g : Graph) → Defines order contents blocks migrate (Ok g) → ((outcome ≡ None) ⊎ (outcome ≡ Some fault.Write)) ⊎ WantsGraph outcome
   -- an audit finds a lawful log lawful, and writes that unless a write fails; it refuses each other log by the verdict on it
-  pub lawful : (plan : Parts) (rows : ℕ → List Row) (bytes : List ℕ) → CanAudit order tells blocks plan rows bytes → IsLawfulLog plan rows bytes → ((outcome ≡ None) ⊎ (outcome ≡ Some fault.Write)) ⊎ WantsLog outcome
-  pub unlawful : (plan : Parts) (rows : ℕ → List Row) (bytes : List ℕ) → CanAudit order tells blocks plan rows bytes → (IsLawfulLog plan rows bytes → ⊥) → ((v : Verdict) × Refuses plan rows bytes v × (outcome ≡ Some (fault.Unlawful v))) ⊎ WantsLog outcome
-  pub verdict : (plan : Parts) (rows : ℕ → List Row) (bytes : List ℕ) (v : Verdict) → CanAudit order tells blocks plan rows bytes → Refuses plan rows bytes v → (outcome ≡ Some (fault.Unlawful v)) ⊎ WantsLog outcome
+  pub lawful : (plan : Parts) (rows : ℕ → List Row) (bytes : List ℕ) → CanAudit order contents blocks plan rows bytes → IsLawfulLog plan rows bytes → ((outcome ≡ None) ⊎ (outcome ≡ Some fault.Write)) ⊎ WantsLog outcome
+  pub unlawful : (plan : Parts) (rows : ℕ → List Row) (bytes : List ℕ) → CanAudit order contents blocks plan rows bytes → (IsLawfulLog plan rows bytes → ⊥) → ((v : Verdict) × Refuses plan rows bytes v × (outcome ≡ Some (fault.Unlawful v))) ⊎ WantsLog outcome
+  pub verdict : (plan : Parts) (rows : ℕ → List Row) (bytes : List ℕ) (v : Verdict) → CanAudit order contents blocks plan rows bytes → Refuses plan rows bytes v → (outcome ≡ Some (fault.Unlawful v)) ⊎ WantsLog outcome
   -- the recording's text has that fault
-  pub air : (g : Graph) (bytes : List ℕ) (f : AirFault) → CanReadAir order tells blocks g bytes → air_of g bytes ≡ Err f → (outcome ≡ Some (fault.Air f)) ⊎ WantsAir outcome
+  pub air : (g : Graph) (bytes : List ℕ) (f : AirFault) → CanReadAir order contents blocks g bytes → air_of g bytes ≡ Err f → (outcome ≡ Some (fault.Air f)) ⊎ WantsAir outcome

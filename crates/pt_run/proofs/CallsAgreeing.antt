@@ -15,15 +15,14 @@ use Rattle.pt_turn.specs.declared.fault.TurnFault.{TurnFault}
 use Rattle.pt_turn.specs.declared.fault.TurnFault.TheVariants as turn
 use Rattle.pt_turn.specs.All.{histories_of}
 use Rattle.pt_turn.specs.Platforms.{PlatformView}
-use Rattle.pt_sensors.specs.Asked.{Contents, Reading}
+use Rattle.pt_io.specs.Calls.{Contents, Reading, Writing}
 use Rattle.pt_words.specs.declared.orders.ClockChoice.{ClockChoice}
 use Rattle.pt_words.specs.declared.orders.ClockChoice.TheVariants.{Machine, Paced, Step}
 use Rattle.pt_run.specs.Agreeing.{TellsAll}
 use Rattle.pt_run.specs.CallsAgreeing.{CallsAgree, EndAlike, IsFixed, IsUndisturbed}
-use Rattle.pt_run.specs.Causes.{Writing}
 use Rattle.pt_run.proofs.ByCause.{ComesByCause, Defines, ReadsRows, WantsGraph, WantsRows}
-use Rattle.pt_run.specs.RunsAgreeing.{TellsSensors}
-use Rattle.pt_run.specs.Runs.{HasRun, IsFinishedRun}
+use Rattle.pt_run.specs.RunsAgreeing.{ReportsSensors}
+use Rattle.pt_run.specs.Runs.{IsOutcomeOver, IsFinishedRun}
 use Rattle.pt_run.specs.Statuses.{status_of, status_of_fault}
 use Rattle.pt_words.specs.Grammar.{over}
 use Rattle.pt_run.specs.Written.{HasNothing, Leaves, clocking, has_run, stop_of}
@@ -36,8 +35,8 @@ use Rattle.pt_run.proofs.Exact.{exact}
 use Rattle.pt_run.proofs.RunsAgreeing.{runs_agree, texts_agree}
 use Rattle.pt_run.proofs.StepsAgreeing.{step_runs}
 
--- a file that is told
-pub of_bytes : (told : Option (List ℕ)) (bytes : List ℕ) (Fact : List ℕ → Type 0) → told ≡ Some bytes → IfSome told Fact → Fact bytes
+-- a file with known content
+pub of_bytes : (reported : Option (List ℕ)) (bytes : List ℕ) (Fact : List ℕ → Type 0) → reported ≡ Some bytes → IfSome reported Fact → Fact bytes
 of_bytes None bytes Fact e h = absurd (none_some bytes e)
 of_bytes (Some b) bytes Fact e h = subst Fact (same_some b bytes e) h
 
@@ -67,22 +66,22 @@ no_graph o calm wants = ⊎_elim (λ (e : o ≡ Some fault.Memory). not_memory o
 no_rows : (o : Option Fault) → IsUndisturbed o → WantsRows o → ⊥
 no_rows o calm wants = ⊎_elim (λ (h : WantsGraph o). no_graph o calm h) (λ (h : (actor : ℕ) × (o ≡ Some (fault.Read (Some actor)))). not_read o (Some h.0) calm h.1) wants
 
-module _ (clock : ClockChoice) (log : Bool) (tells : Contents) (blocks : List Named) (name : List ℕ) (all : TellsAll tells blocks name) where
+module _ (clock : ClockChoice) (log : Bool) (contents : Contents) (blocks : List Named) (name : List ℕ) (all : TellsAll contents blocks name) where
   -- a call that had a run and wrote all of its text, which is none if a platform stopped the run
   record Runs (workers : ℕ) (o : Option Fault) (left : Leaves) (w : Writing) : Type 0 where
     ran : has_run o ≡ true
     is : o ≡ answer_of (stop_of o)
     plan : Parts
     file : graph_of blocks all.bytes ≡ Ok plan.graph
-    run : HasRun tells (clocking workers clock left) plan left.platforms (stop_of o)
+    run : IsOutcomeOver contents (clocking workers clock left) plan left.platforms (stop_of o)
     text : List ℕ
     wrote : Appends w.written_before w.written_now text
-    finished : o ≡ None → IsFinishedRun tells (clocking workers clock left) plan log left.platforms left.misses text
+    finished : o ≡ None → IsFinishedRun contents (clocking workers clock left) plan log left.platforms left.misses text
     stopped : (f : Fault) → o ≡ Some f → (left.misses ≡ []) × (text ≡ [])
 
   -- the answer of any other undisturbed call has the same status
   abbrev Decides : Fault → Type 0
-  Decides f = (workers : ℕ) (o : Option Fault) → ComesByCause o (Some (over (Run workers clock log) name)) tells blocks → IsUndisturbed o → (e : Fault) × (o ≡ Some e) × (status_of_fault e ≡ status_of_fault f) × (has_run (Some e) ≡ false)
+  Decides f = (workers : ℕ) (o : Option Fault) → ComesByCause o (Some (over (Run workers clock log) name)) contents blocks → IsUndisturbed o → (e : Fault) × (o ≡ Some e) × (status_of_fault e ≡ status_of_fault f) × (has_run (Some e) ≡ false)
 
   -- a call that was refused for a cause in its files
   record Refuses (o : Option Fault) (left : Leaves) (w : Writing) : Type 0 where
@@ -94,15 +93,15 @@ module _ (clock : ClockChoice) (log : Bool) (tells : Contents) (blocks : List Na
     decides : Decides answer
 
   -- of such causes
-  defines : (workers : ℕ) (defined : Result Graph GraphFault) → IfSome (tells name) (λ bytes. graph_of blocks bytes ≡ defined) → Defines (Some (over (Run workers clock log) name)) tells blocks (over (Run workers clock log)) defined
-  defines workers defined file = record { name = name; words = refl; bytes = all.bytes; told = all.told; defines = of_bytes (tells name) all.bytes (λ bytes. graph_of blocks bytes ≡ defined) all.told file }
+  defines : (workers : ℕ) (defined : Result Graph GraphFault) → IfSome (contents name) (λ bytes. graph_of blocks bytes ≡ defined) → Defines (Some (over (Run workers clock log) name)) contents blocks (over (Run workers clock log)) defined
+  defines workers defined file = record { name = name; words = refl; bytes = all.bytes; reported = all.reported; defines = of_bytes (contents name) all.bytes (λ bytes. graph_of blocks bytes ≡ defined) all.reported file }
 
-  reads : (workers : ℕ) (g : Graph) → IfSome (tells name) (λ bytes. graph_of blocks bytes ≡ Ok g) → NoFreeCycle g → IsFeasible g → ReadsRows (Some (over (Run workers clock log) name)) tells blocks (Run workers clock log) g
+  reads : (workers : ℕ) (g : Graph) → IfSome (contents name) (λ bytes. graph_of blocks bytes ≡ Ok g) → NoFreeCycle g → IsFeasible g → ReadsRows (Some (over (Run workers clock log) name)) contents blocks (Run workers clock log) g
   reads workers g file free feasible = record {
     graph = defines workers (Ok g) file;
     no_free_cycle = free;
     feasible = λ e. feasible;
-    files = all.files g (of_bytes (tells name) all.bytes (λ bytes. graph_of blocks bytes ≡ Ok g) all.told file);
+    files = all.files g (of_bytes (contents name) all.bytes (λ bytes. graph_of blocks bytes ≡ Ok g) all.reported file);
   }
 
   -- the answer is that cause
@@ -111,13 +110,13 @@ module _ (clock : ClockChoice) (log : Bool) (tells : Contents) (blocks : List Na
 
   module _ (workers : ℕ) (left : Leaves) (r : Reading) (w : Writing) where
     -- a platform stopped the run
-    halted : (o : Option Fault) (g : Graph) → o ≡ answer_of (stop_of o) → has_run o ≡ true → (o ≡ None → ⊥) → IfSome (tells name) (λ bytes. graph_of blocks bytes ≡ Ok g) → (plan : Parts) → plan.graph ≡ g → HasRun tells (clocking workers clock left) plan left.platforms (stop_of o) →
+    halted : (o : Option Fault) (g : Graph) → o ≡ answer_of (stop_of o) → has_run o ≡ true → (o ≡ None → ⊥) → IfSome (contents name) (λ bytes. graph_of blocks bytes ≡ Ok g) → (plan : Parts) → plan.graph ≡ g → IsOutcomeOver contents (clocking workers clock left) plan left.platforms (stop_of o) →
         left.misses ≡ [] → w.written_now ≡ w.written_before → Runs workers o left w
     halted o g is ran some file plan graph run none same = record {
       ran = ran;
       is = is;
       plan = plan;
-      file = of_bytes (tells name) all.bytes (λ bytes. graph_of blocks bytes ≡ Ok plan.graph) all.told (subst (λ (h : Graph). IfSome (tells name) (λ bytes. graph_of blocks bytes ≡ Ok h)) (sym graph) file);
+      file = of_bytes (contents name) all.bytes (λ bytes. graph_of blocks bytes ≡ Ok plan.graph) all.reported (subst (λ (h : Graph). IfSome (contents name) (λ bytes. graph_of blocks bytes ≡ Ok h)) (sym graph) file);
       run = run;
       text = [];
       wrote = nothing_more w.written_before w.written_now same;
@@ -129,12 +128,12 @@ module _ (clock : ClockChoice) (log : Bool) (tells : Contents) (blocks : List Na
     refused f none nothing same decides = record { answer = f; is = refl; none = none; nothing = nothing; same = same; decides = decides }
 
     -- each undisturbed call is one of the two
-    classify : (o : Option Fault) → EndsBy o left (Some (Run workers clock log, name)) tells blocks r w → IsUndisturbed o → Runs workers o left w ⊎ Refuses o left w
+    classify : (o : Option Fault) → EndsBy o left (Some (Run workers clock log, name)) contents blocks r w → IsUndisturbed o → Runs workers o left w ⊎ Refuses o left w
     classify None (text, (g, file, (free, run)), appends) calm = inl (record {
       ran = refl;
       is = refl;
       plan = run.plan;
-      file = of_bytes (tells name) all.bytes (λ bytes. graph_of blocks bytes ≡ Ok run.plan.graph) all.told (subst (λ (h : Graph). IfSome (tells name) (λ bytes. graph_of blocks bytes ≡ Ok h)) (sym run.graph) file);
+      file = of_bytes (contents name) all.bytes (λ bytes. graph_of blocks bytes ≡ Ok run.plan.graph) all.reported (subst (λ (h : Graph). IfSome (contents name) (λ bytes. graph_of blocks bytes ≡ Ok h)) (sym run.graph) file);
       run = run.finished.run;
       text = text;
       wrote = appends;
@@ -177,16 +176,16 @@ module _ (clock : ClockChoice) (log : Bool) (tells : Contents) (blocks : List Na
     graphs : h.plan.graph ≡ k.plan.graph
     graphs = same_ok h.plan.graph k.plan.graph (sym h.file ∙ k.file)
 
-    told : TellsSensors tells h.plan.graph
-    told = all.files h.plan.graph h.file
+    reported : ReportsSensors contents h.plan.graph
+    reported = all.files h.plan.graph h.file
 
     ran_alike : IsFixed clock left.platforms → IsFixed clock leaves.platforms → ((i : ℕ) → histories_of left.platforms i ≡ histories_of leaves.platforms i) × (stop_of o ≡ stop_of p)
     ran_alike = by_clock clock refl
       where
         by_clock : (choice : ClockChoice) → clock ≡ choice → IsFixed choice left.platforms → IsFixed choice leaves.platforms → ((i : ℕ) → histories_of left.platforms i ≡ histories_of leaves.platforms i) × (stop_of o ≡ stop_of p)
-        by_clock Paced e few small = runs_agree tells (clocking workers clock left) (clocking others clock leaves) h.plan k.plan left.platforms leaves.platforms (stop_of o) (stop_of p) e e graphs told h.run k.run
+        by_clock Paced e few small = runs_agree contents (clocking workers clock left) (clocking others clock leaves) h.plan k.plan left.platforms leaves.platforms (stop_of o) (stop_of p) e e graphs reported h.run k.run
         by_clock (Step start step) e few small =
-            step_runs tells start step (clocking workers clock left) (clocking others clock leaves) h.plan k.plan left.platforms leaves.platforms (stop_of o) (stop_of p) e e graphs told few small h.run k.run
+            step_runs contents start step (clocking workers clock left) (clocking others clock leaves) h.plan k.plan left.platforms leaves.platforms (stop_of o) (stop_of p) e e graphs reported few small h.run k.run
         by_clock Machine e few small = absurd few
 
     module _ (same : (i : ℕ) → histories_of left.platforms i ≡ histories_of leaves.platforms i) (stop : stop_of o ≡ stop_of p) where
@@ -195,7 +194,7 @@ module _ (clock : ClockChoice) (log : Bool) (tells : Contents) (blocks : List Na
 
       outputs : (z : Option Fault) → o ≡ z → (h.text ≡ k.text) × (left.misses ≡ leaves.misses)
       outputs None e =
-          texts_agree tells (clocking workers clock left) (clocking others clock leaves) h.plan k.plan log left.platforms leaves.platforms left.misses leaves.misses h.text k.text graphs told same (h.finished e) (k.finished (sym outcomes ∙ e))
+          texts_agree contents (clocking workers clock left) (clocking others clock leaves) h.plan k.plan log left.platforms leaves.platforms left.misses leaves.misses h.text k.text graphs reported same (h.finished e) (k.finished (sym outcomes ∙ e))
       outputs (Some f) e =
           let a = h.stopped f e in
           let b = k.stopped f (sym outcomes ∙ e) in
@@ -226,30 +225,30 @@ module _ (clock : ClockChoice) (log : Bool) (tells : Contents) (blocks : List Na
   not_both o e is never ran = false≢true (sym never ∙ sym (ap has_run is) ∙ ran)
 
 pub calls_agree : CallsAgree
-calls_agree workers others clock log tells blocks name a b all calm still few small due more =
+calls_agree workers others clock log contents blocks name a b all calm still few small due more =
     ⊎_elim
-    (λ (h : Runs clock log tells blocks name all workers a.fault a.left a.wrote).
+    (λ (h : Runs clock log contents blocks name all workers a.fault a.left a.wrote).
     ⊎_elim
-    (λ (k : Runs clock log tells blocks name all others b.fault b.left b.wrote).
-    let alike = ran_alike clock log tells blocks name all workers others a.fault b.fault a.left b.left a.read b.read a.wrote b.wrote h k few small in
-    runs_alike clock log tells blocks name all workers others a.fault b.fault a.left b.left a.read b.read a.wrote b.wrote h k alike.0 alike.1)
-    (λ (k : Refuses clock log tells blocks name all b.fault b.left b.wrote).
-    let (e, is, status, never) = k.decides workers a.fault (exact a.fault a.left (Some (over (Run workers clock log) name)) tells blocks a.read a.wrote ends) calm in
-    absurd (not_both clock log tells blocks name all a.fault e is never h.ran))
+    (λ (k : Runs clock log contents blocks name all others b.fault b.left b.wrote).
+    let alike = ran_alike clock log contents blocks name all workers others a.fault b.fault a.left b.left a.read b.read a.wrote b.wrote h k few small in
+    runs_alike clock log contents blocks name all workers others a.fault b.fault a.left b.left a.read b.read a.wrote b.wrote h k alike.0 alike.1)
+    (λ (k : Refuses clock log contents blocks name all b.fault b.left b.wrote).
+    let (e, is, status, never) = k.decides workers a.fault (exact a.fault a.left (Some (over (Run workers clock log) name)) contents blocks a.read a.wrote ends) calm in
+    absurd (not_both clock log contents blocks name all a.fault e is never h.ran))
     other)
-    (λ (h : Refuses clock log tells blocks name all a.fault a.left a.wrote).
-    let (e, is, status, never) = h.decides others b.fault (exact b.fault b.left (Some (over (Run others clock log) name)) tells blocks b.read b.wrote more_ends) still in
+    (λ (h : Refuses clock log contents blocks name all a.fault a.left a.wrote).
+    let (e, is, status, never) = h.decides others b.fault (exact b.fault b.left (Some (over (Run others clock log) name)) contents blocks b.read b.wrote more_ends) still in
     ⊎_elim
-    (λ (k : Runs clock log tells blocks name all others b.fault b.left b.wrote). absurd (not_both clock log tells blocks name all b.fault e is never k.ran))
-    (λ (k : Refuses clock log tells blocks name all b.fault b.left b.wrote). refused_alike clock log tells blocks name all a.fault b.fault a.left b.left a.read b.read a.wrote b.wrote h k e is status)
+    (λ (k : Runs clock log contents blocks name all others b.fault b.left b.wrote). absurd (not_both clock log contents blocks name all b.fault e is never k.ran))
+    (λ (k : Refuses clock log contents blocks name all b.fault b.left b.wrote). refused_alike clock log contents blocks name all a.fault b.fault a.left b.left a.read b.read a.wrote b.wrote h k e is status)
     other)
-    (classify clock log tells blocks name all workers a.left a.read a.wrote a.fault ends calm)
+    (classify clock log contents blocks name all workers a.left a.read a.wrote a.fault ends calm)
   where
-    ends : EndsBy a.fault a.left (Some (Run workers clock log, name)) tells blocks a.read a.wrote
-    ends = due_ends tells blocks a (Some (over (Run workers clock log) name)) due
+    ends : EndsBy a.fault a.left (Some (Run workers clock log, name)) contents blocks a.read a.wrote
+    ends = due_ends contents blocks a (Some (over (Run workers clock log) name)) due
 
-    more_ends : EndsBy b.fault b.left (Some (Run others clock log, name)) tells blocks b.read b.wrote
-    more_ends = due_ends tells blocks b (Some (over (Run others clock log) name)) more
+    more_ends : EndsBy b.fault b.left (Some (Run others clock log, name)) contents blocks b.read b.wrote
+    more_ends = due_ends contents blocks b (Some (over (Run others clock log) name)) more
 
-    other : Runs clock log tells blocks name all others b.fault b.left b.wrote ⊎ Refuses clock log tells blocks name all b.fault b.left b.wrote
-    other = classify clock log tells blocks name all others b.left b.read b.wrote b.fault more_ends still
+    other : Runs clock log contents blocks name all others b.fault b.left b.wrote ⊎ Refuses clock log contents blocks name all b.fault b.left b.wrote
+    other = classify clock log contents blocks name all others b.left b.read b.wrote b.fault more_ends still

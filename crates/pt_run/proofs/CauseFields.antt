@@ -16,7 +16,8 @@ use Rattle.pt_monitors.specs.Platforms.{missed_by}
 use Rattle.pt_slacks.specs.Rings.{IsRing}
 use Rattle.pt_sensors.specs.declared.recorded_fault.LateRows.{LateRows}
 use Rattle.pt_sensors.specs.declared.recorded_fault.LateRows.TheVariants.{Refused, Taken}
-use Rattle.pt_sensors.specs.Asked.{Contents, ReadFails, Reading}
+use Rattle.pt_sensors.specs.Asked.{ReadFails}
+use Rattle.pt_io.specs.Calls.{Contents, Reading, Writing}
 use Rattle.pt_sensors.specs.Recorded.{SensorFails, SensorLate, SensorUnread}
 use Rattle.pt_tags.specs.declared.tag.Tag.{Tag}
 use Rattle.pt_turn.specs.Platforms.{state_at}
@@ -26,14 +27,13 @@ use Rattle.pt_run.specs.declared.fault.Fault.{Fault}
 use Rattle.pt_run.specs.declared.fault.Fault.TheVariants as fault
 use Rattle.pt_words.specs.declared.orders.Command.{Command}
 use Rattle.pt_words.specs.declared.orders.Command.TheVariants.{Run, Check, Meaning, Slacks}
-use Rattle.pt_run.specs.Causes.{Writing}
 use Rattle.pt_run.specs.Auditing.{Accepts, IsUnlawful, LastFails, OnLog}
 use Rattle.pt_air.specs.declared.fault.AirFault.{AirFault}
 use Rattle.pt_air.specs.AirOf.{air_of}
 use Rattle.pt_run.specs.Leaving.{RunWith}
 use Rattle.pt_run.specs.Replaying.{OnAir}
 use Rattle.pt_words.specs.Grammar.{Order, over, make, migrate, audit, replay}
-use Rattle.pt_run.specs.Telling.{paced_run}
+use Rattle.pt_run.specs.Reporting.{paced_run}
 use Rattle.pt_run.specs.Complete.{OnPlatform}
 use Rattle.pt_run.specs.Written.{GraphWith, Leaves}
 use Rattle.pt_run.proofs.ByFault.{MeansLong}
@@ -50,12 +50,12 @@ OverFile (Some (over command name)) Fact = Fact name
 -- they are a command that needs more of the graph than its text, and a fact holds of the command, the file's name and the graph
 -- that the file defines. An audit and a replay refuse what a paced run refuses, so a fact of them is one of such a run
 abbrev pub OverGraph : Option Order → Contents → List Named → (Command → List ℕ → Graph → Type 0) → Type 0
-OverGraph None tells blocks Fact = ⊥
-OverGraph (Some (make number workers)) tells blocks Fact = ⊥
-OverGraph (Some (migrate name)) tells blocks Fact = ⊥
-OverGraph (Some (over command name)) tells blocks Fact = GraphWith tells blocks name (Fact command name)
-OverGraph (Some (audit name log)) tells blocks Fact = GraphWith tells blocks name (Fact paced_run name)
-OverGraph (Some (replay name air workers log)) tells blocks Fact = GraphWith tells blocks name (Fact paced_run name)
+OverGraph None contents blocks Fact = ⊥
+OverGraph (Some (make number workers)) contents blocks Fact = ⊥
+OverGraph (Some (migrate name)) contents blocks Fact = ⊥
+OverGraph (Some (over command name)) contents blocks Fact = GraphWith contents blocks name (Fact command name)
+OverGraph (Some (audit name log)) contents blocks Fact = GraphWith contents blocks name (Fact paced_run name)
+OverGraph (Some (replay name air workers log)) contents blocks Fact = GraphWith contents blocks name (Fact paced_run name)
 
 -- they are an audit, and a fact holds of the names of the graph file and of the log
 abbrev pub OverLog : Option Order → (List ℕ → List ℕ → Type 0) → Type 0
@@ -96,38 +96,38 @@ OfRows Check Fact = ⊥
 OfRows Slacks Fact = ⊥
 
 -- the table, for one call
-pub record CauseTable (status : ℕ) (outcome : Option Fault) (left : Leaves) (order : Option Order) (tells : Contents) (blocks : List Named) (r : Reading) (w : Writing) : Type 0 where
+pub record CauseTable (status : ℕ) (outcome : Option Fault) (left : Leaves) (order : Option Order) (contents : Contents) (blocks : List Named) (r : Reading) (w : Writing) : Type 0 where
   -- the words are not a valid command line
   pub usage : outcome ≡ Some fault.Usage → order ≡ None
   -- the graph file could not be read, its text has that fault, or those actors are a cycle that takes no time
   pub graph_unread : outcome ≡ Some (fault.Read None) → OverFile order (λ name. ReadFails [] name r)
-  pub graph : (f : GraphFault) → outcome ≡ Some (fault.Graph f) → OverFile order (λ name. IfSome (tells name) (λ bytes. graph_of blocks bytes ≡ Err f))
-  pub cycle : (actors : List ℕ) → outcome ≡ Some (fault.Cycle actors) → OverGraph order tells blocks (λ command name g. IsFreeCycle g actors)
+  pub graph : (f : GraphFault) → outcome ≡ Some (fault.Graph f) → OverFile order (λ name. IfSome (contents name) (λ bytes. graph_of blocks bytes ≡ Err f))
+  pub cycle : (actors : List ℕ) → outcome ≡ Some (fault.Cycle actors) → OverGraph order contents blocks (λ command name g. IsFreeCycle g actors)
   -- that sender is the first that can't send in time, and the command refuses it
-  pub infeasible : (send : ℕ) (offset : ℤ) (slack : ℕ) → outcome ≡ Some (fault.Infeasible send offset slack) → OverGraph order tells blocks (λ command name g. AsksFeasible command × NoFreeCycle g × IsFirstInfeasible g send offset slack)
+  pub infeasible : (send : ℕ) (offset : ℤ) (slack : ℕ) → outcome ≡ Some (fault.Infeasible send offset slack) → OverGraph order contents blocks (λ command name g. AsksFeasible command × NoFreeCycle g × IsFirstInfeasible g send offset slack)
   -- whatever the slacks of these senders, one of them can't send in time
-  pub ring : (sends : List ℕ) (gain : ℕ) → outcome ≡ Some (fault.Ring sends gain) → OverGraph order tells blocks (λ command name g. (command ≡ Slacks) × NoFreeCycle g × IsRing g sends gain)
+  pub ring : (sends : List ℕ) (gain : ℕ) → outcome ≡ Some (fault.Ring sends gain) → OverGraph order contents blocks (λ command name g. (command ≡ Slacks) × NoFreeCycle g × IsRing g sends gain)
   -- that sensor is the first without rows: its file could not be read, the file has that fault, or that row is late
-  pub sensor_unread : (actor : ℕ) → outcome ≡ Some (fault.Read (Some actor)) → OverGraph order tells blocks (λ command name g. IsAccepted command g × OfRows command (λ late. SensorUnread late tells g actor (name ∷ []) r))
-  pub sensor : (actor : ℕ) (f : RowFault) → outcome ≡ Some (fault.Sensor actor f) → OverGraph order tells blocks (λ command name g. IsAccepted command g × OfRows command (λ late. SensorFails late tells g actor f))
-  pub late_row : (actor row seen limit : ℕ) → outcome ≡ Some (fault.LateRow actor row seen limit) → OverGraph order tells blocks (λ command name g. IsRunCommand command × IsAccepted command g × SensorLate tells g actor row seen limit)
+  pub sensor_unread : (actor : ℕ) → outcome ≡ Some (fault.Read (Some actor)) → OverGraph order contents blocks (λ command name g. IsAccepted command g × OfRows command (λ late. SensorUnread late contents g actor (name ∷ []) r))
+  pub sensor : (actor : ℕ) (f : RowFault) → outcome ≡ Some (fault.Sensor actor f) → OverGraph order contents blocks (λ command name g. IsAccepted command g × OfRows command (λ late. SensorFails late contents g actor f))
+  pub late_row : (actor row seen limit : ℕ) → outcome ≡ Some (fault.LateRow actor row seen limit) → OverGraph order contents blocks (λ command name g. IsRunCommand command × IsAccepted command g × SensorLate contents g actor row seen limit)
   -- the recorded turns of that platform end with that late message, which no paced run meets; or they made all claims that a
   -- platform may make, and a unit is still safe; or the meaning is too long
   pub late_message : (platform actor : ℕ) (tag : Tag) (reading limit : ℕ) → outcome ≡ Some (fault.LateMessage platform actor tag reading limit) →
-      OverGraph order tells blocks (λ command name g. IsNotPaced command × IsAccepted command g × OnPlatform left g platform (λ v. ShowsLate g v.turns actor tag reading limit))
-  pub long : (platform : ℕ) → outcome ≡ Some (fault.Long (Some platform)) → OverGraph order tells blocks (λ command name g. IsRunCommand command × IsAccepted command g × OnPlatform left g platform (λ v. ShowsLong g (state_at v)))
-  pub long_meaning : outcome ≡ Some (fault.Long None) → OverGraph order tells blocks (λ command name g. (command ≡ Meaning) × NoFreeCycle g × MeansLong tells g)
+      OverGraph order contents blocks (λ command name g. IsNotPaced command × IsAccepted command g × OnPlatform left g platform (λ v. ShowsLate g v.turns actor tag reading limit))
+  pub long : (platform : ℕ) → outcome ≡ Some (fault.Long (Some platform)) → OverGraph order contents blocks (λ command name g. IsRunCommand command × IsAccepted command g × OnPlatform left g platform (λ v. ShowsLong g (state_at v)))
+  pub long_meaning : outcome ≡ Some (fault.Long None) → OverGraph order contents blocks (λ command name g. (command ≡ Meaning) × NoFreeCycle g × MeansLong contents g)
   -- the log could not be read; or it is refused by that verdict and no other, and is no lawful log. If the audit of a log writes
   -- all, the log is lawful, and no verdict refuses it
-  pub log_unread : outcome ≡ Some fault.ReadLog → OverLog order (λ name log. RunWith tells blocks name (λ plan rows. LastFails plan.graph (name ∷ []) log r))
-  pub unlawful : (v : Verdict) → outcome ≡ Some (fault.Unlawful v) → OverLog order (λ name log. RunWith tells blocks name (OnLog tells log (λ plan rows bytes. IsUnlawful plan rows bytes v)))
-  pub lawful : (name log : List ℕ) → order ≡ Some (audit name log) → outcome ≡ None → RunWith tells blocks name (OnLog tells log Accepts)
+  pub log_unread : outcome ≡ Some fault.ReadLog → OverLog order (λ name log. RunWith contents blocks name (λ plan rows. LastFails plan.graph (name ∷ []) log r))
+  pub unlawful : (v : Verdict) → outcome ≡ Some (fault.Unlawful v) → OverLog order (λ name log. RunWith contents blocks name (OnLog contents log (λ plan rows bytes. IsUnlawful plan rows bytes v)))
+  pub lawful : (name log : List ℕ) → order ≡ Some (audit name log) → outcome ≡ None → RunWith contents blocks name (OnLog contents log Accepts)
   -- the recording could not be read, or its text has that fault; or the recorded turns of that platform end with that late message,
   -- and that row of the recording is the first that breaks a stated bound
-  pub air_unread : outcome ≡ Some fault.ReadAir → OverAir order (λ name air. RunWith tells blocks name (λ plan rows. LastFails plan.graph (name ∷ []) air r))
-  pub air : (f : AirFault) → outcome ≡ Some (fault.Air f) → OverAir order (λ name air. RunWith tells blocks name (λ plan rows. IfSome (tells air) (λ bytes. air_of plan.graph bytes ≡ Err f)))
+  pub air_unread : outcome ≡ Some fault.ReadAir → OverAir order (λ name air. RunWith contents blocks name (λ plan rows. LastFails plan.graph (name ∷ []) air r))
+  pub air : (f : AirFault) → outcome ≡ Some (fault.Air f) → OverAir order (λ name air. RunWith contents blocks name (λ plan rows. IfSome (contents air) (λ bytes. air_of plan.graph bytes ≡ Err f)))
   pub late_air : (platform actor : ℕ) (tag : Tag) (reading limit row : ℕ) → outcome ≡ Some (fault.LateAir platform actor tag reading limit row) →
-      OverAir order (λ name air. RunWith tells blocks name (OnAir tells air (λ plan rows recorded. (recorded.breach ≡ Some row) × OnPlatform left plan.graph platform (λ v. ShowsLate plan.graph v.turns actor tag reading limit))))
+      OverAir order (λ name air. RunWith contents blocks name (OnAir contents air (λ plan rows recorded. (recorded.breach ≡ Some row) × OnPlatform left plan.graph platform (λ v. ShowsLate plan.graph v.turns actor tag reading limit))))
   -- the sink's count of faults rose; with any other fault nothing is written
   pub write : outcome ≡ Some fault.Write → Rose w.before w.now
   pub unwritten : (f : Fault) → outcome ≡ Some f → f ≢ fault.Write → w.written_now ≡ w.written_before

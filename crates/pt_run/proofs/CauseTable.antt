@@ -18,7 +18,8 @@ use Rattle.pt_semantics.specs.Cycles.{NoFreeCycle}
 use Rattle.pt_slacks.specs.Rings.{IsRing}
 use Rattle.pt_semantics.specs.Offsets.{IsFeasible}
 use Rattle.pt_monitors.specs.Platforms.{missed_by}
-use Rattle.pt_sensors.specs.Asked.{Contents, ReadFails, Reading}
+use Rattle.pt_sensors.specs.Asked.{ReadFails}
+use Rattle.pt_io.specs.Calls.{Contents, Reading, Writing}
 use Rattle.pt_sensors.specs.Places.{of_run}
 use Rattle.pt_sensors.specs.Recorded.{SensorFails, SensorLate, SensorUnread}
 use Rattle.pt_run.specs.declared.fault.Fault.{Fault}
@@ -32,7 +33,6 @@ use Rattle.pt_turn.specs.Platforms.{state_at}
 use Rattle.pt_turn.specs.Running.{Shows, ShowsLate, ShowsLong}
 use Rattle.pt_words.specs.declared.orders.ClockChoice.{ClockChoice}
 use Rattle.pt_words.specs.declared.orders.ClockChoice.TheVariants.{Paced}
-use Rattle.pt_run.specs.Causes.{Writing}
 use Rattle.pt_run.proofs.ByFault.{MeansLong}
 use Rattle.pt_run.specs.Complete.{OnPlatform}
 use Rattle.pt_run.proofs.CauseFields.{AsksFeasible, CauseTable, IsAccepted, IsNotPaced, IsRunCommand, OfRows, OverAir, OverFile, OverGraph, OverLog}
@@ -41,7 +41,7 @@ use Rattle.pt_run.specs.Auditing.{Accepts, IsUnlawful, LastFails, OnLog}
 use Rattle.pt_run.specs.Leaving.{RunWith}
 use Rattle.pt_run.specs.Replaying.{LeavesReplay, OnAir}
 use Rattle.pt_words.specs.Grammar.{Order, over, make, migrate, audit, replay}
-use Rattle.pt_run.specs.Telling.{paced_run}
+use Rattle.pt_run.specs.Reporting.{paced_run}
 use Rattle.pt_run.specs.Written.{GraphWith, Leaves}
 use Rattle.pt_run.proofs.ByFault.{CauseOfText, Ends, IsCause, RunStops, WritesText}
 use Rattle.pt_run.proofs.Stages.{not_true}
@@ -76,8 +76,8 @@ is_missed : (misses : List Miss) → misses ≢ [] → status_of None misses ≡
 is_missed [] h = absurd (h refl)
 is_missed (m ∷ ms) h = refl
 
-module _ (left : Leaves) (tells : Contents) (blocks : List Named) (r : Reading) (w : Writing) where
-  usage : (order : Option Order) → Ends (Some fault.Usage) left order tells blocks r w → order ≡ None
+module _ (left : Leaves) (contents : Contents) (blocks : List Named) (r : Reading) (w : Writing) where
+  usage : (order : Option Order) → Ends (Some fault.Usage) left order contents blocks r w → order ≡ None
   usage None k = refl
   usage (Some (over command name)) k = absurd k
   usage (Some (make n workers)) k = absurd k
@@ -85,7 +85,7 @@ module _ (left : Leaves) (tells : Contents) (blocks : List Named) (r : Reading) 
   usage (Some (audit name log)) k = absurd (not_true k.0)
   usage (Some (replay name air workers log)) k = absurd (not_true k.0)
 
-  graph_unread : (order : Option Order) → Ends (Some (fault.Read None)) left order tells blocks r w → OverFile order (λ name. ReadFails [] name r)
+  graph_unread : (order : Option Order) → Ends (Some (fault.Read None)) left order contents blocks r w → OverFile order (λ name. ReadFails [] name r)
   graph_unread None k = absurd (let e = k.0 in cc)
   graph_unread (Some (over command name)) k = k.0
   graph_unread (Some (make n workers)) k = absurd k
@@ -93,7 +93,7 @@ module _ (left : Leaves) (tells : Contents) (blocks : List Named) (r : Reading) 
   graph_unread (Some (audit name log)) k = k.2.0
   graph_unread (Some (replay name air workers log)) k = k.2.0
 
-  graph : (f : GraphFault) (order : Option Order) → Ends (Some (fault.Graph f)) left order tells blocks r w → OverFile order (λ name. IfSome (tells name) (λ bytes. graph_of blocks bytes ≡ Err f))
+  graph : (f : GraphFault) (order : Option Order) → Ends (Some (fault.Graph f)) left order contents blocks r w → OverFile order (λ name. IfSome (contents name) (λ bytes. graph_of blocks bytes ≡ Err f))
   graph f None k = absurd (let e = k.0 in cc)
   graph f (Some (over command name)) k = k.0
   graph f (Some (make n workers)) k = absurd k
@@ -101,7 +101,7 @@ module _ (left : Leaves) (tells : Contents) (blocks : List Named) (r : Reading) 
   graph f (Some (audit name log)) k = k.2.0
   graph f (Some (replay name air workers log)) k = k.2.0
 
-  cycle : (actors : List ℕ) (order : Option Order) → Ends (Some (fault.Cycle actors)) left order tells blocks r w → OverGraph order tells blocks (λ command name g. IsFreeCycle g actors)
+  cycle : (actors : List ℕ) (order : Option Order) → Ends (Some (fault.Cycle actors)) left order contents blocks r w → OverGraph order contents blocks (λ command name g. IsFreeCycle g actors)
   cycle actors None k = absurd (let e = k.0 in cc)
   cycle actors (Some (over command name)) (k, same) = (k.0, k.1, k.2.0)
   cycle actors (Some (make n workers)) k = absurd k
@@ -109,16 +109,16 @@ module _ (left : Leaves) (tells : Contents) (blocks : List Named) (r : Reading) 
   cycle actors (Some (audit name log)) (is, none, (k, same)) = (k.0, k.1, k.2.0)
   cycle actors (Some (replay name air workers log)) (is, none, (k, same)) = (k.0, k.1, k.2.0)
 
-  infeasible_over : (send : ℕ) (offset : ℤ) (slack : ℕ) (command : Command) (name : List ℕ) → IsCause (fault.Infeasible send offset slack) left command tells blocks name r w → GraphWith tells blocks name (λ g. AsksFeasible command × NoFreeCycle g × IsFirstInfeasible g send offset slack)
+  infeasible_over : (send : ℕ) (offset : ℤ) (slack : ℕ) (command : Command) (name : List ℕ) → IsCause (fault.Infeasible send offset slack) left command contents blocks name r w → GraphWith contents blocks name (λ g. AsksFeasible command × NoFreeCycle g × IsFirstInfeasible g send offset slack)
   infeasible_over send offset slack command name (k, same) = (k.0, k.1, of command k.0 k.2.0 k.2.1)
     where
-      of : (c : Command) (g : Graph) → NoFreeCycle g → CauseOfText c (fault.Infeasible send offset slack) left tells g (name ∷ []) r → AsksFeasible c × NoFreeCycle g × IsFirstInfeasible g send offset slack
+      of : (c : Command) (g : Graph) → NoFreeCycle g → CauseOfText c (fault.Infeasible send offset slack) left contents g (name ∷ []) r → AsksFeasible c × NoFreeCycle g × IsFirstInfeasible g send offset slack
       of (Run workers clock log) g free h = (tt, free, h.0)
       of Check g free h = (tt, free, h.0)
       of Meaning g free h = absurd h.0
       of Slacks g free h = absurd h.0
 
-  infeasible : (send : ℕ) (offset : ℤ) (slack : ℕ) (order : Option Order) → Ends (Some (fault.Infeasible send offset slack)) left order tells blocks r w → OverGraph order tells blocks (λ command name g. AsksFeasible command × NoFreeCycle g × IsFirstInfeasible g send offset slack)
+  infeasible : (send : ℕ) (offset : ℤ) (slack : ℕ) (order : Option Order) → Ends (Some (fault.Infeasible send offset slack)) left order contents blocks r w → OverGraph order contents blocks (λ command name g. AsksFeasible command × NoFreeCycle g × IsFirstInfeasible g send offset slack)
   infeasible send offset slack None k = absurd (let e = k.0 in cc)
   infeasible send offset slack (Some (over command name)) k = infeasible_over send offset slack command name k
   infeasible send offset slack (Some (make n workers)) k = absurd k
@@ -126,11 +126,11 @@ module _ (left : Leaves) (tells : Contents) (blocks : List Named) (r : Reading) 
   infeasible send offset slack (Some (audit name log)) k = infeasible_over send offset slack paced_run name k.2
   infeasible send offset slack (Some (replay name air workers log)) k = infeasible_over send offset slack paced_run name k.2
 
-  ring : (sends : List ℕ) (gain : ℕ) (order : Option Order) → Ends (Some (fault.Ring sends gain)) left order tells blocks r w → OverGraph order tells blocks (λ command name g. (command ≡ Slacks) × NoFreeCycle g × IsRing g sends gain)
+  ring : (sends : List ℕ) (gain : ℕ) (order : Option Order) → Ends (Some (fault.Ring sends gain)) left order contents blocks r w → OverGraph order contents blocks (λ command name g. (command ≡ Slacks) × NoFreeCycle g × IsRing g sends gain)
   ring sends gain None k = absurd (let e = k.0 in cc)
   ring sends gain (Some (over command name)) (k, same) = (k.0, k.1, of command k.0 k.2.0 k.2.1)
     where
-      of : (c : Command) (g : Graph) → NoFreeCycle g → CauseOfText c (fault.Ring sends gain) left tells g (name ∷ []) r → (c ≡ Slacks) × NoFreeCycle g × IsRing g sends gain
+      of : (c : Command) (g : Graph) → NoFreeCycle g → CauseOfText c (fault.Ring sends gain) left contents g (name ∷ []) r → (c ≡ Slacks) × NoFreeCycle g × IsRing g sends gain
       of (Run workers clock log) g free h = absurd h
       of Check g free h = absurd h.0
       of Meaning g free h = absurd h.0
@@ -140,16 +140,16 @@ module _ (left : Leaves) (tells : Contents) (blocks : List Named) (r : Reading) 
   ring sends gain (Some (audit name log)) k = absurd (not_true k.0)
   ring sends gain (Some (replay name air workers log)) k = absurd (not_true k.0)
 
-  sensor_unread_over : (actor : ℕ) (command : Command) (name : List ℕ) → IsCause (fault.Read (Some actor)) left command tells blocks name r w → GraphWith tells blocks name (λ g. IsAccepted command g × OfRows command (λ late. SensorUnread late tells g actor (name ∷ []) r))
+  sensor_unread_over : (actor : ℕ) (command : Command) (name : List ℕ) → IsCause (fault.Read (Some actor)) left command contents blocks name r w → GraphWith contents blocks name (λ g. IsAccepted command g × OfRows command (λ late. SensorUnread late contents g actor (name ∷ []) r))
   sensor_unread_over actor command name (k, same) = (k.0, k.1, of command k.0 k.2.0 k.2.1)
     where
-      of : (c : Command) (g : Graph) → NoFreeCycle g → CauseOfText c (fault.Read (Some actor)) left tells g (name ∷ []) r → IsAccepted c g × OfRows c (λ late. SensorUnread late tells g actor (name ∷ []) r)
+      of : (c : Command) (g : Graph) → NoFreeCycle g → CauseOfText c (fault.Read (Some actor)) left contents g (name ∷ []) r → IsAccepted c g × OfRows c (λ late. SensorUnread late contents g actor (name ∷ []) r)
       of (Run workers clock log) g free h = ((free, λ reads. h.0), h.1)
       of Check g free h = absurd h.0
       of Meaning g free h = ((free, λ reads. absurd reads), h.0)
       of Slacks g free h = absurd h.0
 
-  sensor_unread : (actor : ℕ) (order : Option Order) → Ends (Some (fault.Read (Some actor))) left order tells blocks r w → OverGraph order tells blocks (λ command name g. IsAccepted command g × OfRows command (λ late. SensorUnread late tells g actor (name ∷ []) r))
+  sensor_unread : (actor : ℕ) (order : Option Order) → Ends (Some (fault.Read (Some actor))) left order contents blocks r w → OverGraph order contents blocks (λ command name g. IsAccepted command g × OfRows command (λ late. SensorUnread late contents g actor (name ∷ []) r))
   sensor_unread actor None k = absurd (let e = k.0 in cc)
   sensor_unread actor (Some (over command name)) k = sensor_unread_over actor command name k
   sensor_unread actor (Some (make n workers)) k = absurd k
@@ -157,16 +157,16 @@ module _ (left : Leaves) (tells : Contents) (blocks : List Named) (r : Reading) 
   sensor_unread actor (Some (audit name log)) k = sensor_unread_over actor paced_run name k.2
   sensor_unread actor (Some (replay name air workers log)) k = sensor_unread_over actor paced_run name k.2
 
-  sensor_over : (actor : ℕ) (f : RowFault) (command : Command) (name : List ℕ) → IsCause (fault.Sensor actor f) left command tells blocks name r w → GraphWith tells blocks name (λ g. IsAccepted command g × OfRows command (λ late. SensorFails late tells g actor f))
+  sensor_over : (actor : ℕ) (f : RowFault) (command : Command) (name : List ℕ) → IsCause (fault.Sensor actor f) left command contents blocks name r w → GraphWith contents blocks name (λ g. IsAccepted command g × OfRows command (λ late. SensorFails late contents g actor f))
   sensor_over actor f command name (k, same) = (k.0, k.1, of command k.0 k.2.0 k.2.1)
     where
-      of : (c : Command) (g : Graph) → NoFreeCycle g → CauseOfText c (fault.Sensor actor f) left tells g (name ∷ []) r → IsAccepted c g × OfRows c (λ late. SensorFails late tells g actor f)
+      of : (c : Command) (g : Graph) → NoFreeCycle g → CauseOfText c (fault.Sensor actor f) left contents g (name ∷ []) r → IsAccepted c g × OfRows c (λ late. SensorFails late contents g actor f)
       of (Run workers clock log) g free h = ((free, λ reads. h.0), h.1)
       of Check g free h = absurd h.0
       of Meaning g free h = ((free, λ reads. absurd reads), h.0)
       of Slacks g free h = absurd h.0
 
-  sensor : (actor : ℕ) (f : RowFault) (order : Option Order) → Ends (Some (fault.Sensor actor f)) left order tells blocks r w → OverGraph order tells blocks (λ command name g. IsAccepted command g × OfRows command (λ late. SensorFails late tells g actor f))
+  sensor : (actor : ℕ) (f : RowFault) (order : Option Order) → Ends (Some (fault.Sensor actor f)) left order contents blocks r w → OverGraph order contents blocks (λ command name g. IsAccepted command g × OfRows command (λ late. SensorFails late contents g actor f))
   sensor actor f None k = absurd (let e = k.0 in cc)
   sensor actor f (Some (over command name)) k = sensor_over actor f command name k
   sensor actor f (Some (make n workers)) k = absurd k
@@ -174,16 +174,16 @@ module _ (left : Leaves) (tells : Contents) (blocks : List Named) (r : Reading) 
   sensor actor f (Some (audit name log)) k = sensor_over actor f paced_run name k.2
   sensor actor f (Some (replay name air workers log)) k = sensor_over actor f paced_run name k.2
 
-  late_row_over : (actor row seen limit : ℕ) (command : Command) (name : List ℕ) → IsCause (fault.LateRow actor row seen limit) left command tells blocks name r w → GraphWith tells blocks name (λ g. IsRunCommand command × IsAccepted command g × SensorLate tells g actor row seen limit)
+  late_row_over : (actor row seen limit : ℕ) (command : Command) (name : List ℕ) → IsCause (fault.LateRow actor row seen limit) left command contents blocks name r w → GraphWith contents blocks name (λ g. IsRunCommand command × IsAccepted command g × SensorLate contents g actor row seen limit)
   late_row_over actor row seen limit command name (k, same) = (k.0, k.1, of command k.0 k.2.0 k.2.1)
     where
-      of : (c : Command) (g : Graph) → NoFreeCycle g → CauseOfText c (fault.LateRow actor row seen limit) left tells g (name ∷ []) r → IsRunCommand c × IsAccepted c g × SensorLate tells g actor row seen limit
+      of : (c : Command) (g : Graph) → NoFreeCycle g → CauseOfText c (fault.LateRow actor row seen limit) left contents g (name ∷ []) r → IsRunCommand c × IsAccepted c g × SensorLate contents g actor row seen limit
       of (Run workers clock log) g free h = (tt, (free, λ reads. h.0), h.1)
       of Check g free h = absurd h.0
       of Meaning g free h = absurd h.0
       of Slacks g free h = absurd h.0
 
-  late_row : (actor row seen limit : ℕ) (order : Option Order) → Ends (Some (fault.LateRow actor row seen limit)) left order tells blocks r w → OverGraph order tells blocks (λ command name g. IsRunCommand command × IsAccepted command g × SensorLate tells g actor row seen limit)
+  late_row : (actor row seen limit : ℕ) (order : Option Order) → Ends (Some (fault.LateRow actor row seen limit)) left order contents blocks r w → OverGraph order contents blocks (λ command name g. IsRunCommand command × IsAccepted command g × SensorLate contents g actor row seen limit)
   late_row actor row seen limit None k = absurd (let e = k.0 in cc)
   late_row actor row seen limit (Some (over command name)) k = late_row_over actor row seen limit command name k
   late_row actor row seen limit (Some (make n workers)) k = absurd k
@@ -192,26 +192,26 @@ module _ (left : Leaves) (tells : Contents) (blocks : List Named) (r : Reading) 
   late_row actor row seen limit (Some (replay name air workers log)) k = late_row_over actor row seen limit paced_run name k.2
 
   -- the platform that stopped a run, as its recorded turns show
-  pub stopped : (g : Graph) (workers : ℕ) (clock : ClockChoice) (platform : ℕ) (f : TurnFault) → RunStops tells g workers clock left platform f → OnPlatform left g platform (λ v. Shows g v.turns (state_at v) f)
-  stopped g workers clock platform f stop = let (v, at, is, shows, before) = stop.run.went.kept.ends in (v, at, ap (λ (p : Parts). p.graph) (stop.run.went.kept.all.plans platform v at) ∙ stop.graph, subst (λ z. Shows z v.turns (state_at v) f) stop.graph shows)
+  pub stopped : (g : Graph) (workers : ℕ) (clock : ClockChoice) (platform : ℕ) (f : TurnFault) → RunStops contents g workers clock left platform f → OnPlatform left g platform (λ v. Shows g v.turns (state_at v) f)
+  stopped g workers clock platform f stop = let (v, at, is, shows, before) = stop.run.fact.kept.ends in (v, at, ap (λ (p : Parts). p.graph) (stop.run.fact.kept.all.plans platform v at) ∙ stop.graph, subst (λ z. Shows z v.turns (state_at v) f) stop.graph shows)
 
   -- a run that began is of a graph whose senders can send in time
-  feasible : (g : Graph) (workers : ℕ) (clock : ClockChoice) (platform : ℕ) (f : TurnFault) → RunStops tells g workers clock left platform f → IsFeasible g
+  feasible : (g : Graph) (workers : ℕ) (clock : ClockChoice) (platform : ℕ) (f : TurnFault) → RunStops contents g workers clock left platform f → IsFeasible g
   feasible g workers clock platform f stop = subst IsFeasible stop.graph stop.run.admitted.feasible
 
   -- no message is late in a paced run
-  pub never_paced : (g : Graph) (workers : ℕ) (clock : ClockChoice) (platform actor : ℕ) (tag : Tag) (reading limit : ℕ) → RunStops tells g workers clock left platform (turn.Late actor tag reading limit) → clock ≢ Paced
-  never_paced g workers clock platform actor tag reading limit stop paced = late (stop.run.went.paced paced).0
+  pub never_paced : (g : Graph) (workers : ℕ) (clock : ClockChoice) (platform actor : ℕ) (tag : Tag) (reading limit : ℕ) → RunStops contents g workers clock left platform (turn.Late actor tag reading limit) → clock ≢ Paced
+  never_paced g workers clock platform actor tag reading limit stop paced = late (stop.run.fact.paced paced).all_claims_made
     where
       late : turn.Late actor tag reading limit ≡ turn.Long → ⊥
       late e = cc
 
-  late_message : (platform actor : ℕ) (tag : Tag) (reading limit : ℕ) (order : Option Order) → Ends (Some (fault.LateMessage platform actor tag reading limit)) left order tells blocks r w →
-      OverGraph order tells blocks (λ command name g. IsNotPaced command × IsAccepted command g × OnPlatform left g platform (λ v. ShowsLate g v.turns actor tag reading limit))
+  late_message : (platform actor : ℕ) (tag : Tag) (reading limit : ℕ) (order : Option Order) → Ends (Some (fault.LateMessage platform actor tag reading limit)) left order contents blocks r w →
+      OverGraph order contents blocks (λ command name g. IsNotPaced command × IsAccepted command g × OnPlatform left g platform (λ v. ShowsLate g v.turns actor tag reading limit))
   late_message platform actor tag reading limit None k = absurd (let e = k.0 in cc)
   late_message platform actor tag reading limit (Some (over command name)) (k, same) = (k.0, k.1, of command k.0 k.2.0 k.2.1)
     where
-      of : (c : Command) (g : Graph) → NoFreeCycle g → CauseOfText c (fault.LateMessage platform actor tag reading limit) left tells g (name ∷ []) r → IsNotPaced c × IsAccepted c g × OnPlatform left g platform (λ v. ShowsLate g v.turns actor tag reading limit)
+      of : (c : Command) (g : Graph) → NoFreeCycle g → CauseOfText c (fault.LateMessage platform actor tag reading limit) left contents g (name ∷ []) r → IsNotPaced c × IsAccepted c g × OnPlatform left g platform (λ v. ShowsLate g v.turns actor tag reading limit)
       of (Run workers clock log) g free h = (never_paced g workers clock platform actor tag reading limit h, (free, λ reads. feasible g workers clock platform (turn.Late actor tag reading limit) h), stopped g workers clock platform (turn.Late actor tag reading limit) h)
       of Check g free h = absurd h.0
       of Meaning g free h = absurd h.0
@@ -221,11 +221,11 @@ module _ (left : Leaves) (tells : Contents) (blocks : List Named) (r : Reading) 
   late_message platform actor tag reading limit (Some (audit name log)) k = absurd (not_true k.0)
   late_message platform actor tag reading limit (Some (replay name air workers log)) k = absurd (not_true k.0)
 
-  long : (platform : ℕ) (order : Option Order) → Ends (Some (fault.Long (Some platform))) left order tells blocks r w → OverGraph order tells blocks (λ command name g. IsRunCommand command × IsAccepted command g × OnPlatform left g platform (λ v. ShowsLong g (state_at v)))
+  long : (platform : ℕ) (order : Option Order) → Ends (Some (fault.Long (Some platform))) left order contents blocks r w → OverGraph order contents blocks (λ command name g. IsRunCommand command × IsAccepted command g × OnPlatform left g platform (λ v. ShowsLong g (state_at v)))
   long platform None k = absurd (let e = k.0 in cc)
   long platform (Some (over command name)) (k, same) = (k.0, k.1, of command k.0 k.2.0 k.2.1)
     where
-      of : (c : Command) (g : Graph) → NoFreeCycle g → CauseOfText c (fault.Long (Some platform)) left tells g (name ∷ []) r → IsRunCommand c × IsAccepted c g × OnPlatform left g platform (λ v. ShowsLong g (state_at v))
+      of : (c : Command) (g : Graph) → NoFreeCycle g → CauseOfText c (fault.Long (Some platform)) left contents g (name ∷ []) r → IsRunCommand c × IsAccepted c g × OnPlatform left g platform (λ v. ShowsLong g (state_at v))
       of (Run workers clock log) g free h = (tt, (free, λ reads. feasible g workers clock platform turn.Long h), stopped g workers clock platform turn.Long h)
       of Check g free h = absurd h.0
       of Meaning g free h = absurd h.0
@@ -234,14 +234,14 @@ module _ (left : Leaves) (tells : Contents) (blocks : List Named) (r : Reading) 
   long platform (Some (migrate name)) k = absurd k.1
   long platform (Some (audit name log)) k = absurd (not_true k.0)
   long platform (Some (replay name air workers log)) k =
-      let went : LeavesReplay log (Some (fault.Long (Some platform))) left w k.plan (of_run k.plan.graph k.over.rows) k.over.went.recorded = k.over.went.fact in
-      (k.plan.graph, k.file, (tt, (k.over.admitted.no_free_cycle, λ reads. k.over.admitted.feasible), stopped_in_air left k.plan (of_run k.plan.graph k.over.rows) k.over.went.recorded platform turn.Long went.flown))
+      let leaves : LeavesReplay log (Some (fault.Long (Some platform))) left w k.plan (of_run k.plan.graph k.over.rows) k.over.fact.recorded = k.over.fact.fact in
+      (k.plan.graph, k.file, (tt, (k.over.admitted.no_free_cycle, λ reads. k.over.admitted.feasible), stopped_in_air left k.plan (of_run k.plan.graph k.over.rows) k.over.fact.recorded platform turn.Long leaves.replayed))
 
-  long_meaning : (order : Option Order) → Ends (Some (fault.Long None)) left order tells blocks r w → OverGraph order tells blocks (λ command name g. (command ≡ Meaning) × NoFreeCycle g × MeansLong tells g)
+  long_meaning : (order : Option Order) → Ends (Some (fault.Long None)) left order contents blocks r w → OverGraph order contents blocks (λ command name g. (command ≡ Meaning) × NoFreeCycle g × MeansLong contents g)
   long_meaning None k = absurd (let e = k.0 in cc)
   long_meaning (Some (over command name)) (k, same) = (k.0, k.1, of command k.0 k.2.0 k.2.1)
     where
-      of : (c : Command) (g : Graph) → NoFreeCycle g → CauseOfText c (fault.Long None) left tells g (name ∷ []) r → (c ≡ Meaning) × NoFreeCycle g × MeansLong tells g
+      of : (c : Command) (g : Graph) → NoFreeCycle g → CauseOfText c (fault.Long None) left contents g (name ∷ []) r → (c ≡ Meaning) × NoFreeCycle g × MeansLong contents g
       of (Run workers clock log) g free h = absurd h
       of Check g free h = absurd h.0
       of Meaning g free h = (refl, free, h.0)
@@ -252,11 +252,11 @@ module _ (left : Leaves) (tells : Contents) (blocks : List Named) (r : Reading) 
   long_meaning (Some (replay name air workers log)) k = absurd (not_true k.0)
 
   -- the log could not be read, and no other order asks for one
-  log_unread : (order : Option Order) → Ends (Some fault.ReadLog) left order tells blocks r w → OverLog order (λ name log. RunWith tells blocks name (λ plan rows. LastFails plan.graph (name ∷ []) log r))
+  log_unread : (order : Option Order) → Ends (Some fault.ReadLog) left order contents blocks r w → OverLog order (λ name log. RunWith contents blocks name (λ plan rows. LastFails plan.graph (name ∷ []) log r))
   log_unread None k = absurd (let e = k.0 in cc)
   log_unread (Some (over command name)) (k, same) = of command k.0 k.2.1
     where
-      of : (c : Command) (g : Graph) → CauseOfText c fault.ReadLog left tells g (name ∷ []) r → ⊥
+      of : (c : Command) (g : Graph) → CauseOfText c fault.ReadLog left contents g (name ∷ []) r → ⊥
       of (Run workers clock log) g h = h
       of Check g h = h.0
       of Meaning g h = h.0
@@ -266,11 +266,11 @@ module _ (left : Leaves) (tells : Contents) (blocks : List Named) (r : Reading) 
   log_unread (Some (audit name log)) k = k.1
   log_unread (Some (replay name air workers log)) k = absurd (not_true k.0)
 
-  unlawful : (v : Verdict) (order : Option Order) → Ends (Some (fault.Unlawful v)) left order tells blocks r w → OverLog order (λ name log. RunWith tells blocks name (OnLog tells log (λ plan rows bytes. IsUnlawful plan rows bytes v)))
+  unlawful : (v : Verdict) (order : Option Order) → Ends (Some (fault.Unlawful v)) left order contents blocks r w → OverLog order (λ name log. RunWith contents blocks name (OnLog contents log (λ plan rows bytes. IsUnlawful plan rows bytes v)))
   unlawful v None k = absurd (let e = k.0 in cc)
   unlawful v (Some (over command name)) (k, same) = of command k.0 k.2.1
     where
-      of : (c : Command) (g : Graph) → CauseOfText c (fault.Unlawful v) left tells g (name ∷ []) r → ⊥
+      of : (c : Command) (g : Graph) → CauseOfText c (fault.Unlawful v) left contents g (name ∷ []) r → ⊥
       of (Run workers clock log) g h = h
       of Check g h = h.0
       of Meaning g h = h.0
@@ -280,15 +280,15 @@ module _ (left : Leaves) (tells : Contents) (blocks : List Named) (r : Reading) 
   unlawful v (Some (audit name log)) k = k.1
   unlawful v (Some (replay name air workers log)) k = absurd (not_true k.0)
 
-  lawful : (order : Option Order) (name log : List ℕ) → order ≡ Some (audit name log) → Ends None left order tells blocks r w → RunWith tells blocks name (OnLog tells log Accepts)
-  lawful order name log is k = let h = subst (λ o. Ends None left o tells blocks r w) is k in h.1
+  lawful : (order : Option Order) (name log : List ℕ) → order ≡ Some (audit name log) → Ends None left order contents blocks r w → RunWith contents blocks name (OnLog contents log Accepts)
+  lawful order name log is k = let h = subst (λ o. Ends None left o contents blocks r w) is k in h.1
 
   -- the recording could not be read, and no other order asks for one
-  air_unread : (order : Option Order) → Ends (Some fault.ReadAir) left order tells blocks r w → OverAir order (λ name air. RunWith tells blocks name (λ plan rows. LastFails plan.graph (name ∷ []) air r))
+  air_unread : (order : Option Order) → Ends (Some fault.ReadAir) left order contents blocks r w → OverAir order (λ name air. RunWith contents blocks name (λ plan rows. LastFails plan.graph (name ∷ []) air r))
   air_unread None k = absurd (let e = k.0 in cc)
   air_unread (Some (over command name)) (k, same) = of command k.0 k.2.1
     where
-      of : (c : Command) (g : Graph) → CauseOfText c fault.ReadAir left tells g (name ∷ []) r → ⊥
+      of : (c : Command) (g : Graph) → CauseOfText c fault.ReadAir left contents g (name ∷ []) r → ⊥
       of (Run workers clock log) g h = h
       of Check g h = h.0
       of Meaning g h = h.0
@@ -298,11 +298,11 @@ module _ (left : Leaves) (tells : Contents) (blocks : List Named) (r : Reading) 
   air_unread (Some (audit name log)) k = absurd (not_true k.0)
   air_unread (Some (replay name air workers log)) k = k.1
 
-  air_fails : (f : AirFault) (order : Option Order) → Ends (Some (fault.Air f)) left order tells blocks r w → OverAir order (λ name air. RunWith tells blocks name (λ plan rows. IfSome (tells air) (λ bytes. air_of plan.graph bytes ≡ Err f)))
+  air_fails : (f : AirFault) (order : Option Order) → Ends (Some (fault.Air f)) left order contents blocks r w → OverAir order (λ name air. RunWith contents blocks name (λ plan rows. IfSome (contents air) (λ bytes. air_of plan.graph bytes ≡ Err f)))
   air_fails f None k = absurd (let e = k.0 in cc)
   air_fails f (Some (over command name)) (k, same) = of command k.0 k.2.1
     where
-      of : (c : Command) (g : Graph) → CauseOfText c (fault.Air f) left tells g (name ∷ []) r → ⊥
+      of : (c : Command) (g : Graph) → CauseOfText c (fault.Air f) left contents g (name ∷ []) r → ⊥
       of (Run workers clock log) g h = h
       of Check g h = h.0
       of Meaning g h = h.0
@@ -312,12 +312,12 @@ module _ (left : Leaves) (tells : Contents) (blocks : List Named) (r : Reading) 
   air_fails f (Some (audit name log)) k = absurd (not_true k.0)
   air_fails f (Some (replay name air workers log)) k = k.1
 
-  late_air : (platform actor : ℕ) (tag : Tag) (reading limit row : ℕ) (order : Option Order) → Ends (Some (fault.LateAir platform actor tag reading limit row)) left order tells blocks r w →
-      OverAir order (λ name air. RunWith tells blocks name (OnAir tells air (λ plan rows recorded. (recorded.breach ≡ Some row) × OnPlatform left plan.graph platform (λ v. ShowsLate plan.graph v.turns actor tag reading limit))))
+  late_air : (platform actor : ℕ) (tag : Tag) (reading limit row : ℕ) (order : Option Order) → Ends (Some (fault.LateAir platform actor tag reading limit row)) left order contents blocks r w →
+      OverAir order (λ name air. RunWith contents blocks name (OnAir contents air (λ plan rows recorded. (recorded.breach ≡ Some row) × OnPlatform left plan.graph platform (λ v. ShowsLate plan.graph v.turns actor tag reading limit))))
   late_air platform actor tag reading limit row None k = absurd (let e = k.0 in cc)
   late_air platform actor tag reading limit row (Some (over command name)) (k, same) = of command k.0 k.2.1
     where
-      of : (c : Command) (g : Graph) → CauseOfText c (fault.LateAir platform actor tag reading limit row) left tells g (name ∷ []) r → ⊥
+      of : (c : Command) (g : Graph) → CauseOfText c (fault.LateAir platform actor tag reading limit row) left contents g (name ∷ []) r → ⊥
       of (Run workers clock log) g h = h
       of Check g h = h.0
       of Meaning g h = h.0
@@ -326,7 +326,7 @@ module _ (left : Leaves) (tells : Contents) (blocks : List Named) (r : Reading) 
   late_air platform actor tag reading limit row (Some (migrate name)) k = absurd k.1
   late_air platform actor tag reading limit row (Some (audit name log)) k = absurd (not_true k.0)
   late_air platform actor tag reading limit row (Some (replay name air workers log)) k =
-      let went : LeavesReplay log (Some (fault.LateAir platform actor tag reading limit row)) left w k.plan (of_run k.plan.graph k.over.rows) k.over.went.recorded = k.over.went.fact in
+      let leaves : LeavesReplay log (Some (fault.LateAir platform actor tag reading limit row)) left w k.plan (of_run k.plan.graph k.over.rows) k.over.fact.recorded = k.over.fact.fact in
       record {
         plan = k.plan;
         file = k.file;
@@ -335,16 +335,16 @@ module _ (left : Leaves) (tells : Contents) (blocks : List Named) (r : Reading) 
           rows = k.over.rows;
           sensors = k.over.sensors;
           in_time = k.over.in_time;
-          went = record {
-            recorded = k.over.went.recorded;
-            file = k.over.went.file;
-            bounds = k.over.went.bounds;
-            fact = (went.breach, stopped_in_air left k.plan (of_run k.plan.graph k.over.rows) k.over.went.recorded platform (turn.Late actor tag reading limit) went.flown);
+          fact = record {
+            recorded = k.over.fact.recorded;
+            file = k.over.fact.file;
+            bounds = k.over.fact.bounds;
+            fact = (leaves.breach, stopped_in_air left k.plan (of_run k.plan.graph k.over.rows) k.over.fact.recorded platform (turn.Late actor tag reading limit) leaves.replayed);
           };
         };
       }
 
-  write : (order : Option Order) → Ends (Some fault.Write) left order tells blocks r w → Rose w.before w.now
+  write : (order : Option Order) → Ends (Some fault.Write) left order contents blocks r w → Rose w.before w.now
   write None k = absurd (let e = k.0 in cc)
   write (Some (over command name)) k = k.0
   write (Some (make n workers)) k = k.0
@@ -352,7 +352,7 @@ module _ (left : Leaves) (tells : Contents) (blocks : List Named) (r : Reading) 
   write (Some (audit name log)) k = k.2
   write (Some (replay name air workers log)) k = k.0
 
-  unwritten : (f : Fault) (order : Option Order) → f ≢ fault.Write → Ends (Some f) left order tells blocks r w → w.written_now ≡ w.written_before
+  unwritten : (f : Fault) (order : Option Order) → f ≢ fault.Write → Ends (Some f) left order contents blocks r w → w.written_now ≡ w.written_before
   unwritten fault.Memory None never k = k.1
   unwritten fault.Usage None never k = k.2
   unwritten (fault.Graph f) None never k = k.2
@@ -436,13 +436,13 @@ module _ (left : Leaves) (tells : Contents) (blocks : List Named) (r : Reading) 
   unwritten (fault.LateAir platform actor tag reading limit row) (Some (audit name log)) never k = absurd (not_true k.0)
   unwritten (fault.Air f) (Some (audit name log)) never k = absurd (not_true k.0)
   unwritten fault.ReadAir (Some (audit name log)) never k = absurd (not_true k.0)
-  unwritten f (Some (replay name air workers log)) never k = unwritten_in_air left name air log tells blocks r w f never k
+  unwritten f (Some (replay name air workers log)) never k = unwritten_in_air left name air log contents blocks r w f never k
 
-  missed_are : (order : Option Order) → Ends None left order tells blocks r w → left.misses ≡ flat_map missed_by left.platforms
+  missed_are : (order : Option Order) → Ends None left order contents blocks r w → left.misses ≡ flat_map missed_by left.platforms
   missed_are None k = absurd (let e = k.0 in cc)
   missed_are (Some (over command name)) (text, (g, file, (free, writes)), appends) = of command writes
     where
-      of : (c : Command) → WritesText c tells g left text → left.misses ≡ flat_map missed_by left.platforms
+      of : (c : Command) → WritesText c contents g left text → left.misses ≡ flat_map missed_by left.platforms
       of (Run workers clock log) run = run.finished.missed
       of Check h = h.0.0 ∙ sym (ap (flat_map missed_by) h.0.1)
       of Meaning h = h.0.0 ∙ sym (ap (flat_map missed_by) h.0.1)
@@ -450,33 +450,33 @@ module _ (left : Leaves) (tells : Contents) (blocks : List Named) (r : Reading) 
   missed_are (Some (make n workers)) (none, text, run, appends) = none ∙ sym run.none_missed
   missed_are (Some (migrate name)) k = k.0.0 ∙ sym (ap (flat_map missed_by) k.0.1)
   missed_are (Some (audit name log)) k = k.0.0 ∙ sym (ap (flat_map missed_by) k.0.1)
-  missed_are (Some (replay name air workers log)) k = k.over.went.fact.misses refl
+  missed_are (Some (replay name air workers log)) k = k.over.fact.fact.misses refl
 
-pub caused : (status : ℕ) (o : Option Fault) (left : Leaves) (order : Option Order) (tells : Contents) (blocks : List Named) (r : Reading) (w : Writing) → status ≡ status_of o left.misses → Ends o left order tells blocks r w → CauseTable status o left order tells blocks r w
-caused status o left order tells blocks r w is ends = record {
-  usage = λ e. usage left tells blocks r w order (by fault.Usage e);
-  graph_unread = λ e. graph_unread left tells blocks r w order (by (fault.Read None) e);
-  graph = λ f e. graph left tells blocks r w f order (by (fault.Graph f) e);
-  cycle = λ actors e. cycle left tells blocks r w actors order (by (fault.Cycle actors) e);
-  infeasible = λ send offset slack e. infeasible left tells blocks r w send offset slack order (by (fault.Infeasible send offset slack) e);
-  ring = λ sends gain e. ring left tells blocks r w sends gain order (by (fault.Ring sends gain) e);
-  sensor_unread = λ actor e. sensor_unread left tells blocks r w actor order (by (fault.Read (Some actor)) e);
-  sensor = λ actor f e. sensor left tells blocks r w actor f order (by (fault.Sensor actor f) e);
-  late_row = λ actor row seen limit e. late_row left tells blocks r w actor row seen limit order (by (fault.LateRow actor row seen limit) e);
-  late_message = λ platform actor tag reading limit e. late_message left tells blocks r w platform actor tag reading limit order (by (fault.LateMessage platform actor tag reading limit) e);
-  long = λ platform e. long left tells blocks r w platform order (by (fault.Long (Some platform)) e);
-  long_meaning = λ e. long_meaning left tells blocks r w order (by (fault.Long None) e);
-  log_unread = λ e. log_unread left tells blocks r w order (by fault.ReadLog e);
-  unlawful = λ v e. unlawful left tells blocks r w v order (by (fault.Unlawful v) e);
-  lawful = λ name log words e. lawful left tells blocks r w order name log words (subst (λ z. Ends z left order tells blocks r w) e ends);
-  air_unread = λ e. air_unread left tells blocks r w order (by fault.ReadAir e);
-  air = λ f e. air_fails left tells blocks r w f order (by (fault.Air f) e);
-  late_air = λ platform actor tag reading limit row e. late_air left tells blocks r w platform actor tag reading limit row order (by (fault.LateAir platform actor tag reading limit row) e);
-  write = λ e. write left tells blocks r w order (by fault.Write e);
-  unwritten = λ f e never. unwritten left tells blocks r w f order never (by f e);
+pub caused : (status : ℕ) (o : Option Fault) (left : Leaves) (order : Option Order) (contents : Contents) (blocks : List Named) (r : Reading) (w : Writing) → status ≡ status_of o left.misses → Ends o left order contents blocks r w → CauseTable status o left order contents blocks r w
+caused status o left order contents blocks r w is ends = record {
+  usage = λ e. usage left contents blocks r w order (by fault.Usage e);
+  graph_unread = λ e. graph_unread left contents blocks r w order (by (fault.Read None) e);
+  graph = λ f e. graph left contents blocks r w f order (by (fault.Graph f) e);
+  cycle = λ actors e. cycle left contents blocks r w actors order (by (fault.Cycle actors) e);
+  infeasible = λ send offset slack e. infeasible left contents blocks r w send offset slack order (by (fault.Infeasible send offset slack) e);
+  ring = λ sends gain e. ring left contents blocks r w sends gain order (by (fault.Ring sends gain) e);
+  sensor_unread = λ actor e. sensor_unread left contents blocks r w actor order (by (fault.Read (Some actor)) e);
+  sensor = λ actor f e. sensor left contents blocks r w actor f order (by (fault.Sensor actor f) e);
+  late_row = λ actor row seen limit e. late_row left contents blocks r w actor row seen limit order (by (fault.LateRow actor row seen limit) e);
+  late_message = λ platform actor tag reading limit e. late_message left contents blocks r w platform actor tag reading limit order (by (fault.LateMessage platform actor tag reading limit) e);
+  long = λ platform e. long left contents blocks r w platform order (by (fault.Long (Some platform)) e);
+  long_meaning = λ e. long_meaning left contents blocks r w order (by (fault.Long None) e);
+  log_unread = λ e. log_unread left contents blocks r w order (by fault.ReadLog e);
+  unlawful = λ v e. unlawful left contents blocks r w v order (by (fault.Unlawful v) e);
+  lawful = λ name log words e. lawful left contents blocks r w order name log words (subst (λ z. Ends z left order contents blocks r w) e ends);
+  air_unread = λ e. air_unread left contents blocks r w order (by fault.ReadAir e);
+  air = λ f e. air_fails left contents blocks r w f order (by (fault.Air f) e);
+  late_air = λ platform actor tag reading limit row e. late_air left contents blocks r w platform actor tag reading limit row order (by (fault.LateAir platform actor tag reading limit row) e);
+  write = λ e. write left contents blocks r w order (by fault.Write e);
+  unwritten = λ f e never. unwritten left contents blocks r w f order never (by f e);
   missed = (λ five. none_misses o left.misses (sym is ∙ five), λ h. is ∙ ap (λ z. status_of z left.misses) h.0 ∙ is_missed left.misses h.1);
-  missed_are = λ e. missed_are left tells blocks r w order (subst (λ z. Ends z left order tells blocks r w) e ends);
+  missed_are = λ e. missed_are left contents blocks r w order (subst (λ z. Ends z left order contents blocks r w) e ends);
 }
   where
-    by : (f : Fault) → o ≡ Some f → Ends (Some f) left order tells blocks r w
-    by f e = subst (λ z. Ends z left order tells blocks r w) e ends
+    by : (f : Fault) → o ≡ Some f → Ends (Some f) left order contents blocks r w
+    by f e = subst (λ z. Ends z left order contents blocks r w) e ends

@@ -26,13 +26,13 @@ use Rattle.pt_semantics.specs.Ranks.{AreRanks, sum_along}
 use Rattle.pt_semantics.proofs.Acyclic.{ranks_are_one}
 use Rattle.pt_semantics.proofs.Lookups.{none_some}
 use Rattle.pt_laws.proofs.Unique.{meaning_is_one}
-use Rattle.pt_schedule.specs.Schedule.{IsMissedByMeaning}
+use Rattle.pt_paced_laws.specs.Schedule.{IsMissedByMeaning}
 use Rattle.pt_offsets.specs.Margins.{IsFirstInfeasible}
 use Rattle.pt_offsets.specs.Plans.{IsAdmitted, Parts}
 use Rattle.pt_turn.specs.Platforms.{PlatformView}
-use Rattle.pt_rounds.specs.HaveRun.{HaveRun, IsLongOn}
+use Rattle.pt_rounds.specs.Outcome.{IsOutcome as IsPacedOutcome, IsLongOn}
 use Rattle.pt_sensors.specs.declared.recorded_fault.LateRows.TheVariants.{Refused}
-use Rattle.pt_sensors.specs.Asked.{Contents, Reading}
+use Rattle.pt_io.specs.Calls.{Contents, Reading, Writing}
 use Rattle.pt_sensors.specs.Places.{of_run}
 use Rattle.pt_sensors.specs.Recorded.{AreRows, InTime, RowsOfKind, SensorFails, SensorLate}
 use Rattle.pt_run.proofs.ByFault.{CauseOf, Ends, EndsBy, RunStops}
@@ -41,7 +41,6 @@ use Rattle.pt_run.specs.Runs.{IsFinishedRun}
 use Rattle.pt_run.specs.declared.fault.Fault.{Fault}
 use Rattle.pt_run.specs.declared.fault.Fault.TheVariants as fault
 use Rattle.pt_words.specs.declared.orders.Command.TheVariants.{Run}
-use Rattle.pt_run.specs.Causes.{Writing}
 use Rattle.pt_run.specs.Complete.{CanBegin, EndsAsShown, FitsClaims, IsComplete, IsCompleteByAnyClock, StatusIsMeant}
 use Rattle.pt_run.specs.Written.{GraphWith, Leaves, Means, clocking}
 use Rattle.pt_run.proofs.CauseTable.{never_paced, stopped as stopped_at}
@@ -53,10 +52,9 @@ use Rattle.pt_words.specs.declared.orders.ClockChoice.TheVariants.{Paced}
 use Rattle.pt_run.specs.Readings.{Clocking}
 use Rattle.pt_run.specs.Statuses.{status_of}
 use Rattle.pt_words.specs.Grammar.{Order}
-use Rattle.pt_types.specs.Limits.{most_claims}
 
--- what a file defines that is told is one
-pub agrees : {R : Type 0} (read : List ℕ → R) (told : Option (List ℕ)) (bytes : List ℕ) (o p : R) → told ≡ Some bytes → IfSome told (λ bytes. read bytes ≡ o) → IfSome told (λ bytes. read bytes ≡ p) → o ≡ p
+-- what a file with known content defines is one
+pub agrees : {R : Type 0} (read : List ℕ → R) (reported : Option (List ℕ)) (bytes : List ℕ) (o p : R) → reported ≡ Some bytes → IfSome reported (λ bytes. read bytes ≡ o) → IfSome reported (λ bytes. read bytes ≡ p) → o ≡ p
 agrees read None bytes o p e h k = absurd (none_some bytes e)
 agrees read (Some b) bytes o p e h k = sym h ∙ k
 
@@ -81,53 +79,53 @@ by_misses status g xs [] e few all = inl (e, few, (λ missed. (all (record { act
 by_misses status g xs (m ∷ ms) e few all = inr (inl (e, few, (m.actor, m.tag, m.reading, m.limit, (all m).0 (inl refl))))
 
 -- and of one that a platform stopped
-pub by_platform : (status : ℕ) (g : Graph) (xs : List ActorFiring) (platform : ℕ) → status ≡ 6 → platform < length g.platforms → most_claims < unit_firings g platform (parts g xs) → StatusIsMeant status g xs
+pub by_platform : (status : ℕ) (g : Graph) (xs : List ActorFiring) (platform : ℕ) → status ≡ 6 → platform < length g.platforms → g.claims < unit_firings g platform (parts g xs) → StatusIsMeant status g xs
 by_platform status g xs platform is within over = inr (inr (inl (is, λ few. clash (unit_firings g platform (parts g xs)) over (few platform within))))
   where
-    clash : (n : ℕ) → most_claims < n → n ≤ most_claims → ⊥
+    clash : (n : ℕ) → g.claims < n → n ≤ g.claims → ⊥
     clash n over le = omega arith
 
-module _ (tells : Contents) (blocks : List Named) (name : List ℕ) (g : Graph) (can : CanBegin tells blocks name g) where
-  read : IfSome (tells name) (λ bytes. graph_of blocks bytes ≡ Ok g)
-  read = subst (λ told. IfSome told (λ bytes. graph_of blocks bytes ≡ Ok g)) (sym can.told) can.graph
+module _ (contents : Contents) (blocks : List Named) (name : List ℕ) (g : Graph) (can : CanBegin contents blocks name g) where
+  read : IfSome (contents name) (λ bytes. graph_of blocks bytes ≡ Ok g)
+  read = subst (λ reported. IfSome reported (λ bytes. graph_of blocks bytes ≡ Ok g)) (sym can.reported) can.graph
 
   -- a graph that the file defines is this one, and it has no fault
-  pub this_graph : (h : Graph) → IfSome (tells name) (λ bytes. graph_of blocks bytes ≡ Ok h) → h ≡ g
-  this_graph h other = sym (same_ok {E = GraphFault} g h (agrees (graph_of blocks) (tells name) can.bytes (Ok g) (Ok h) can.told read other))
+  pub this_graph : (h : Graph) → IfSome (contents name) (λ bytes. graph_of blocks bytes ≡ Ok h) → h ≡ g
+  this_graph h other = sym (same_ok {E = GraphFault} g h (agrees (graph_of blocks) (contents name) can.bytes (Ok g) (Ok h) can.reported read other))
 
-  pub no_fault : (f : GraphFault) → IfSome (tells name) (λ bytes. graph_of blocks bytes ≡ Err f) → ⊥
-  no_fault f other = ok_err g f (agrees (graph_of blocks) (tells name) can.bytes (Ok g) (Err f) can.told read other)
+  pub no_fault : (f : GraphFault) → IfSome (contents name) (λ bytes. graph_of blocks bytes ≡ Err f) → ⊥
+  no_fault f other = ok_err g f (agrees (graph_of blocks) (contents name) can.bytes (Ok g) (Err f) can.reported read other)
 
   -- no sensor's file has a fault, and no row is late
-  of_sensor : (a : ℕ) (file : List ℕ) (bound : ℕ) → kind_of g a ≡ Sensor file bound → IfSome (tells file) (λ bytes. rows_of bytes ≡ Ok (can.rows a))
-  of_sensor a file bound kind = subst (λ (k : Kind). RowsOfKind tells k (can.rows a)) kind (can.sensors a)
+  of_sensor : (a : ℕ) (file : List ℕ) (bound : ℕ) → kind_of g a ≡ Sensor file bound → IfSome (contents file) (λ bytes. rows_of bytes ≡ Ok (can.rows a))
+  of_sensor a file bound kind = subst (λ (k : Kind). RowsOfKind contents k (can.rows a)) kind (can.sensors a)
 
-  pub sensor_fails : (actor : ℕ) (f : RowFault) → SensorFails Refused tells g actor f → ⊥
+  pub sensor_fails : (actor : ℕ) (f : RowFault) → SensorFails Refused contents g actor f → ⊥
   sensor_fails actor f h =
-      let told = can.files actor h.file h.bound h.sensor in
-      ok_err (can.rows actor) f (agrees rows_of (tells h.file) told.0 (Ok (can.rows actor)) (Err f) told.1 (of_sensor actor h.file h.bound h.sensor) h.fails)
+      let reported = can.files actor h.file h.bound h.sensor in
+      ok_err (can.rows actor) f (agrees rows_of (contents h.file) reported.0 (Ok (can.rows actor)) (Err f) reported.1 (of_sensor actor h.file h.bound h.sensor) h.fails)
 
-  pub sensor_late : (actor row seen limit : ℕ) → SensorLate tells g actor row seen limit → ⊥
+  pub sensor_late : (actor row seen limit : ℕ) → SensorLate contents g actor row seen limit → ⊥
   sensor_late actor row seen limit h =
-      let told = can.files actor h.file h.bound h.sensor in
-      let rows : can.rows actor ≡ h.rows = same_ok {E = RowFault} (can.rows actor) h.rows (agrees rows_of (tells h.file) told.0 (Ok (can.rows actor)) (Ok h.rows) told.1 (of_sensor actor h.file h.bound h.sensor) h.read) in
+      let reported = can.files actor h.file h.bound h.sensor in
+      let rows : can.rows actor ≡ h.rows = same_ok {E = RowFault} (can.rows actor) h.rows (agrees rows_of (contents h.file) reported.0 (Ok (can.rows actor)) (Ok h.rows) reported.1 (of_sensor actor h.file h.bound h.sensor) h.read) in
       let passes : late_row h.bound g.until (can.rows actor) ≡ None = subst (λ (k : Kind). InTime g.until k (can.rows actor)) h.sensor (can.in_time actor) in
       none_some row (sym passes ∙ ap (late_row h.bound g.until) rows ∙ h.is_late.first)
 
   -- by whatever clock
   module _ (left : Leaves) (workers : ℕ) (clock : ClockChoice) (log : Bool) (r : Reading) (w : Writing) (reads : Rose r.before r.now → ⊥) (writes : Rose w.before w.now → ⊥) where
-    own_cause : (f : Fault) → GraphWith tells blocks name (λ h. CauseOf (Run workers clock log) f left tells h (name ∷ []) r) → EndsAsShown (Some f) left g
-    own_cause f (h, file, cause) = on_graph f (subst (λ z. CauseOf (Run workers clock log) f left tells z (name ∷ []) r) (this_graph h file) cause)
+    own_cause : (f : Fault) → GraphWith contents blocks name (λ h. CauseOf (Run workers clock log) f left contents h (name ∷ []) r) → EndsAsShown (Some f) left g
+    own_cause f (h, file, cause) = on_graph f (subst (λ z. CauseOf (Run workers clock log) f left contents z (name ∷ []) r) (this_graph h file) cause)
       where
-        on_graph : (e : Fault) → CauseOf (Run workers clock log) e left tells g (name ∷ []) r → EndsAsShown (Some e) left g
+        on_graph : (e : Fault) → CauseOf (Run workers clock log) e left contents g (name ∷ []) r → EndsAsShown (Some e) left g
         on_graph (fault.Cycle actors) k = absurd (can.no_free_cycle k.0.first k.0.edge k.0.path k.0.cycle k.0.free)
         on_graph fault.Memory k = tt
         on_graph (fault.Infeasible send offset slack) k = absurd (too_late g send slack offset can.feasible k.1.0)
         on_graph (fault.Read (Some actor)) k = absurd (reads k.1.1.failed.rose)
         on_graph (fault.Sensor actor e) k = absurd (sensor_fails actor e k.1.1)
         on_graph (fault.LateRow actor row seen limit) k = absurd (sensor_late actor row seen limit k.1.1)
-        on_graph (fault.LateMessage platform actor tag reading limit) k = stopped_at left tells blocks r w g workers clock platform (turn.Late actor tag reading limit) k.1
-        on_graph (fault.Long (Some platform)) k = stopped_at left tells blocks r w g workers clock platform turn.Long k.1
+        on_graph (fault.LateMessage platform actor tag reading limit) k = stopped_at left contents blocks r w g workers clock platform (turn.Late actor tag reading limit) k.1
+        on_graph (fault.Long (Some platform)) k = stopped_at left contents blocks r w g workers clock platform turn.Long k.1
         on_graph (fault.Long None) k = absurd k.1
         on_graph (fault.Ring sends gain) k = absurd k.1
         on_graph fault.ReadLog k = absurd k.1
@@ -140,7 +138,7 @@ module _ (tells : Contents) (blocks : List Named) (name : List ℕ) (g : Graph) 
         on_graph (fault.Graph e) k = absurd k.1
         on_graph fault.Write k = absurd k.1
 
-    own_outcome : (o : Option Fault) → EndsBy o left (Some (Run workers clock log, name)) tells blocks r w → EndsAsShown o left g
+    own_outcome : (o : Option Fault) → EndsBy o left (Some (Run workers clock log, name)) contents blocks r w → EndsAsShown o left g
     own_outcome None (text, (h, file, (free, run)), appends) = run.finished.missed
     own_outcome (Some fault.Usage) k = absurd k
     own_outcome (Some (fault.Graph f)) k = absurd (no_fault f k.0)
@@ -163,16 +161,16 @@ module _ (tells : Contents) (blocks : List Named) (name : List ℕ) (g : Graph) 
 
   module _ (xs : List ActorFiring) (means : Means g can.rows xs) where
     -- the meaning of a plan of this graph with the rows of the run
-    pub meaning : (plan : Parts) (rows : ℕ → List Row) → plan.graph ≡ g → AreRows tells plan.graph rows → IsMeaning plan.graph means.rank (of_run plan.graph rows) xs
+    pub meaning : (plan : Parts) (rows : ℕ → List Row) → plan.graph ≡ g → AreRows contents plan.graph rows → IsMeaning plan.graph means.rank (of_run plan.graph rows) xs
     meaning plan rows same are =
         subst (λ h. IsMeaning h means.rank (of_run h rows) xs) (sym same)
-        (subst (λ r. IsMeaning g means.rank (of_run g r) xs) (rows_are_one tells g can.rows rows can.files can.sensors (subst (λ h. AreRows tells h rows) same are)) means.meaning)
+        (subst (λ r. IsMeaning g means.rank (of_run g r) xs) (rows_are_one contents g can.rows rows can.files can.sensors (subst (λ h. AreRows contents h rows) same are)) means.meaning)
 
-    is_long : (plan : Parts) (rows : ℕ → List Row) (platforms : List PlatformView) (stop : Option ℕ) → plan.graph ≡ g → AreRows tells plan.graph rows → HaveRun plan (level_of plan.ranks) (of_run plan.graph rows) platforms stop → IsLongOn plan.graph xs stop
+    is_long : (plan : Parts) (rows : ℕ → List Row) (platforms : List PlatformView) (stop : Option (ℕ × TurnFault)) → plan.graph ≡ g → AreRows contents plan.graph rows → IsPacedOutcome plan (level_of plan.ranks) (of_run plan.graph rows) platforms stop → IsLongOn plan.graph xs stop
     is_long plan rows platforms stop same are run = run.long means.rank xs (subst (λ h. AreRanks h means.rank) (sym same) means.ranks) (meaning plan rows same are)
 
     -- the firings of a plan of this graph with these rows are those of the meaning
-    pub one_meaning : (plan : Parts) (rows : ℕ → List Row) (firings : List ActorFiring) → plan.graph ≡ g → AreRows tells plan.graph rows → IsAdmitted plan → IsMeaning plan.graph (rank_of plan.ranks) (of_run plan.graph rows) firings → firings ≡ xs
+    pub one_meaning : (plan : Parts) (rows : ℕ → List Row) (firings : List ActorFiring) → plan.graph ≡ g → AreRows contents plan.graph rows → IsAdmitted plan → IsMeaning plan.graph (rank_of plan.ranks) (of_run plan.graph rows) firings → firings ≡ xs
     one_meaning plan rows firings same are admitted found =
         meaning_is_one plan.graph (rank_of plan.ranks) (of_run plan.graph rows) firings xs found
         (subst (λ rank. IsMeaning plan.graph rank (of_run plan.graph rows) xs)
@@ -180,7 +178,7 @@ module _ (tells : Contents) (blocks : List Named) (name : List ℕ) (g : Graph) 
         (meaning plan rows same are))
 
     -- a run that finished
-    module _ (c : Clocking) (plan : Parts) (log : Bool) (platforms : List PlatformView) (misses : List Miss) (text : List ℕ) (paced : c.choice ≡ Paced) (same : plan.graph ≡ g) (done : IsFinishedRun tells c plan log platforms misses text) where
+    module _ (c : Clocking) (plan : Parts) (log : Bool) (platforms : List PlatformView) (misses : List Miss) (text : List ℕ) (paced : c.choice ≡ Paced) (same : plan.graph ≡ g) (done : IsFinishedRun contents c plan log platforms misses text) where
       pub firings_meant : done.firings ≡ xs
       firings_meant = one_meaning plan done.run.rows done.firings same done.run.sensors done.run.admitted done.meaning
 
@@ -188,29 +186,29 @@ module _ (tells : Contents) (blocks : List Named) (name : List ℕ) (g : Graph) 
       missed_meant m = subst (λ h. IsIn m misses ↔ IsMissedByMeaning h xs m.actor m.tag m.reading m.limit) same (subst (λ zs. IsIn m misses ↔ IsMissedByMeaning plan.graph zs m.actor m.tag m.reading m.limit) firings_meant (done.missed_as_meant paced m))
 
       finished : (status : ℕ) → status ≡ status_of None misses → StatusIsMeant status g xs
-      finished status is = by_misses status g xs misses is (subst (λ h. FitsClaims h xs) same (is_long plan done.run.rows platforms None same done.run.sensors (done.run.went.paced paced))) missed_meant
+      finished status is = by_misses status g xs misses is (subst (λ h. FitsClaims h xs) same (is_long plan done.run.rows platforms None same done.run.sensors (done.run.fact.paced paced))) missed_meant
 
     -- a run that stopped
-    stopped : (status workers : ℕ) (left : Leaves) (platform : ℕ) (f : TurnFault) → status ≡ 6 → RunStops tells g workers Paced left platform f → StatusIsMeant status g xs
+    stopped : (status workers : ℕ) (left : Leaves) (platform : ℕ) (f : TurnFault) → status ≡ 6 → RunStops contents g workers Paced left platform f → StatusIsMeant status g xs
     stopped status workers left platform f is h =
-        let over : most_claims < unit_firings g platform (parts g xs) = subst (λ z. most_claims < unit_firings z platform (parts z xs)) h.graph (is_long h.plan h.run.rows left.platforms (Some platform) h.graph h.run.sensors (h.run.went.paced refl).1) in
-        let view = h.run.went.kept.ends in
-        let within : platform < length g.platforms = subst (λ z. platform < length z) (ap (λ (z : Graph). z.platforms) h.graph) (subst (λ n. platform < n) h.run.went.kept.all.count (slice_get_within left.platforms platform view.0 view.1)) in
+        let over : g.claims < unit_firings g platform (parts g xs) = subst (λ z. z.claims < unit_firings z platform (parts z xs)) h.graph (is_long h.plan h.run.rows left.platforms (Some (platform, f)) h.graph h.run.sensors (h.run.fact.paced refl)) in
+        let view = h.run.fact.kept.ends in
+        let within : platform < length g.platforms = subst (λ z. platform < length z) (ap (λ (z : Graph). z.platforms) h.graph) (subst (λ n. platform < n) h.run.fact.kept.all.count (slice_get_within left.platforms platform view.0 view.1)) in
         by_platform status g xs platform is within over
 
     module _ (status : ℕ) (left : Leaves) (workers : ℕ) (log : Bool) (r : Reading) (w : Writing) (reads : Rose r.before r.now → ⊥) (writes : Rose w.before w.now → ⊥) where
       -- by the fault over the graph
-      by_cause : (f : Fault) → status ≡ status_of (Some f) left.misses → GraphWith tells blocks name (λ h. CauseOf (Run workers Paced log) f left tells h (name ∷ []) r) → StatusIsMeant status g xs
-      by_cause f is (h, file, cause) = on_graph f is (subst (λ z. CauseOf (Run workers Paced log) f left tells z (name ∷ []) r) (this_graph h file) cause)
+      by_cause : (f : Fault) → status ≡ status_of (Some f) left.misses → GraphWith contents blocks name (λ h. CauseOf (Run workers Paced log) f left contents h (name ∷ []) r) → StatusIsMeant status g xs
+      by_cause f is (h, file, cause) = on_graph f is (subst (λ z. CauseOf (Run workers Paced log) f left contents z (name ∷ []) r) (this_graph h file) cause)
         where
-          on_graph : (e : Fault) → status ≡ status_of (Some e) left.misses → CauseOf (Run workers Paced log) e left tells g (name ∷ []) r → StatusIsMeant status g xs
+          on_graph : (e : Fault) → status ≡ status_of (Some e) left.misses → CauseOf (Run workers Paced log) e left contents g (name ∷ []) r → StatusIsMeant status g xs
           on_graph (fault.Cycle actors) is k = absurd (can.no_free_cycle k.0.first k.0.edge k.0.path k.0.cycle k.0.free)
           on_graph fault.Memory is k = inr (inr (inr is))
           on_graph (fault.Infeasible send offset slack) is k = absurd (too_late g send slack offset can.feasible k.1.0)
           on_graph (fault.Read (Some actor)) is k = absurd (reads k.1.1.failed.rose)
           on_graph (fault.Sensor actor e) is k = absurd (sensor_fails actor e k.1.1)
           on_graph (fault.LateRow actor row seen limit) is k = absurd (sensor_late actor row seen limit k.1.1)
-          on_graph (fault.LateMessage platform actor tag reading limit) is k = absurd (never_paced left tells blocks r w g workers Paced platform actor tag reading limit k.1 refl)
+          on_graph (fault.LateMessage platform actor tag reading limit) is k = absurd (never_paced left contents blocks r w g workers Paced platform actor tag reading limit k.1 refl)
           on_graph (fault.Long (Some platform)) is k = stopped status workers left platform turn.Long is k.1
           on_graph (fault.Long None) is k = absurd k.1
           on_graph (fault.Ring sends gain) is k = absurd k.1
@@ -224,7 +222,7 @@ module _ (tells : Contents) (blocks : List Named) (name : List ℕ) (g : Graph) 
           on_graph (fault.Graph e) is k = absurd k.1
           on_graph fault.Write is k = absurd k.1
 
-      by_outcome : (o : Option Fault) → status ≡ status_of o left.misses → EndsBy o left (Some (Run workers Paced log, name)) tells blocks r w → StatusIsMeant status g xs
+      by_outcome : (o : Option Fault) → status ≡ status_of o left.misses → EndsBy o left (Some (Run workers Paced log, name)) contents blocks r w → StatusIsMeant status g xs
       by_outcome None is (text, (h, file, (free, run)), appends) = finished (clocking workers Paced left) run.plan log left.platforms left.misses text refl (run.graph ∙ this_graph h file) run.finished status is
       by_outcome (Some fault.Usage) is k = absurd k
       by_outcome (Some (fault.Graph f)) is k = absurd (no_fault f k.0)
@@ -246,10 +244,10 @@ module _ (tells : Contents) (blocks : List Named) (name : List ℕ) (g : Graph) 
       by_outcome (Some (fault.Long platform)) is k = by_cause (fault.Long platform) is k.0
 
 -- a call that ends by its words
-pub complete : (status : ℕ) (o : Option Fault) (left : Leaves) (order : Option Order) (tells : Contents) (blocks : List Named) (r : Reading) (w : Writing) → status ≡ status_of o left.misses → Ends o left order tells blocks r w → IsComplete status order tells blocks r w
-complete status o left order tells blocks r w is ends workers log name g xs words can reads writes =
-    by_outcome tells blocks name g can.begins xs can.means status left workers log r w reads writes o is (subst (λ z. Ends o left z tells blocks r w) words ends)
+pub complete : (status : ℕ) (o : Option Fault) (left : Leaves) (order : Option Order) (contents : Contents) (blocks : List Named) (r : Reading) (w : Writing) → status ≡ status_of o left.misses → Ends o left order contents blocks r w → IsComplete status order contents blocks r w
+complete status o left order contents blocks r w is ends workers log name g xs words can reads writes =
+    by_outcome contents blocks name g can.begins xs can.means status left workers log r w reads writes o is (subst (λ z. Ends o left z contents blocks r w) words ends)
 
-pub complete_by_any_clock : (o : Option Fault) (left : Leaves) (order : Option Order) (tells : Contents) (blocks : List Named) (r : Reading) (w : Writing) → Ends o left order tells blocks r w → IsCompleteByAnyClock o left order tells blocks r w
-complete_by_any_clock o left order tells blocks r w ends workers clock log name g words can reads writes =
-    own_outcome tells blocks name g can left workers clock log r w reads writes o (subst (λ z. Ends o left z tells blocks r w) words ends)
+pub complete_by_any_clock : (o : Option Fault) (left : Leaves) (order : Option Order) (contents : Contents) (blocks : List Named) (r : Reading) (w : Writing) → Ends o left order contents blocks r w → IsCompleteByAnyClock o left order contents blocks r w
+complete_by_any_clock o left order contents blocks r w ends workers clock log name g words can reads writes =
+    own_outcome contents blocks name g can left workers clock log r w reads writes o (subst (λ z. Ends o left z contents blocks r w) words ends)

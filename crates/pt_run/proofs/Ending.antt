@@ -22,16 +22,17 @@ use Rattle.pt_sensors.specs.declared.recorded_fault.LateRows.{LateRows}
 use Rattle.pt_sensors.specs.declared.recorded_fault.LateRows.TheVariants.{Taken}
 use Rattle.pt_sensors.specs.declared.recorded_fault.RecordedFault.{RecordedFault}
 use Rattle.pt_sensors.specs.declared.recorded_fault.RecordedFault.TheVariants as rows
-use Rattle.pt_sensors.specs.Asked.{Contents, ReadFails, Reading}
+use Rattle.pt_sensors.specs.Asked.{ReadFails}
+use Rattle.pt_io.specs.Calls.{Contents, Reading, Writing}
 use Rattle.pt_sensors.specs.Recorded.{AreRows, CauseOfRows, SensorUnread}
-use Rattle.pt_io.specs.Told.{ClockView}
+use Rattle.pt_io.specs.Clocks.{ClockView}
 use Rattle.pt_run.specs.declared.fault.Fault.{Fault}
 use Rattle.pt_run.specs.declared.fault.Fault.TheVariants as fault
 use Rattle.pt_run.specs.declared.outcome.Ending.{Ending}
-use Rattle.pt_run.specs.Causes.{IsTooLongForAll, Writing}
+use Rattle.pt_run.specs.Causes.{IsTooLongForAll}
 use Rattle.pt_run.specs.Due.{AfterCycles, AfterFile, AfterOffsets, AfterRows, Answer, Answers, AnswersAsDue, IsMeantBy, IsSlackedBy, OnlyPuts, PutsText, RefusedWith, RefusesAsDue, UnlessMemory}
 use Rattle.pt_run.specs.Faults.{fault_of_cycle, fault_of_graph, fault_of_offset, fault_of_rows, fault_of_slacks}
-use Rattle.pt_run.specs.Texts.{PutsOrTells, PutBy, left_by, left_with}
+use Rattle.pt_run.specs.Texts.{PutsOrReports, PutBy, left_by, left_with}
 use Rattle.pt_run.specs.Written.{FitOnAll, HasNothing, IsChecked, IsTables, Leaves, leaves_nothing}
 
 -- where nothing is left, there are no misses and no platforms
@@ -44,7 +45,7 @@ module _ (o : Ending) (r : Reading) (w : Writing) where
   abbrev answer : Answer
   answer = record { fault = o.fault; left = left_by o; read = r; wrote = w }
 
-  given : {X : Type 0} (text : X → List ℕ) (made : Result X Fault) → PutsOrTells text made o w → UnlessMemory answer (Answers text made)
+  given : {X : Type 0} (text : X → List ℕ) (made : Result X Fault) → PutsOrReports text made o w → UnlessMemory answer (Answers text made)
   given text (Ok x) (none, put) = inr (has_nothing o [] [] none, by_outcome o.fault refl put)
     where
       by_outcome : (e : Option Fault) → o.fault ≡ e → PutBy e (text x) w → PutsText answer (λ z. z ≡ text x)
@@ -53,22 +54,22 @@ module _ (o : Ending) (r : Reading) (w : Writing) where
   given text (Err f) (none, is, still) = ⊎_elim (λ (same : o.fault ≡ Some f). inr (same, has_nothing o [] [] none, still)) (λ (memory : o.fault ≡ Some fault.Memory). inl (memory, has_nothing o [] [] none, still)) is
 
   -- is so as is due
-  pub given_due : {X : Type 0} (text : X → List ℕ) (made : Result X Fault) (Due : Answer → Type 0) → AnswersAsDue text made r Due → PutsOrTells text made o w → UnlessMemory answer Due
+  pub given_due : {X : Type 0} (text : X → List ℕ) (made : Result X Fault) (Due : Answer → Type 0) → AnswersAsDue text made r Due → PutsOrReports text made o w → UnlessMemory answer Due
   given_due text made Due due h = ⊎_elim (λ (out : RefusedWith fault.Memory answer). inl out) (λ (k : Answers text made answer). due answer refl k) (given text made h)
 
--- a refusal that was told, or there was no memory for its line
-pub told_due : (a : Answer) (f told : Fault) (Due : Answer → Type 0) → HasNothing a.left → a.wrote.written_now ≡ a.wrote.written_before → a.fault ≡ Some told → (told ≡ f) ⊎ (told ≡ fault.Memory) → RefusesAsDue f a.read Due → UnlessMemory a Due
-told_due a f told Due nothing still is tell refuses = ⊎_elim (λ (same : told ≡ f). refuses a refl (is ∙ ap Some same, nothing, still)) (λ (none : told ≡ fault.Memory). inl (is ∙ ap Some none, nothing, still)) tell
+-- a refusal that was reported, or there was no memory for its line
+pub reported_due : (a : Answer) (f reported : Fault) (Due : Answer → Type 0) → HasNothing a.left → a.wrote.written_now ≡ a.wrote.written_before → a.fault ≡ Some reported → (reported ≡ f) ⊎ (reported ≡ fault.Memory) → RefusesAsDue f a.read Due → UnlessMemory a Due
+reported_due a f reported Due nothing still is report refuses = ⊎_elim (λ (same : reported ≡ f). refuses a refl (is ∙ ap Some same, nothing, still)) (λ (none : reported ≡ fault.Memory). inl (is ∙ ap Some none, nothing, still)) report
 
 -- The graph file.
 
-module _ (tells : Contents) (blocks : List Named) (name : List ℕ) (r : Reading) where
+module _ (contents : Contents) (blocks : List Named) (name : List ℕ) (r : Reading) where
   -- it could not be read
-  pub graph_unread : ReadFails [] name r → RefusesAsDue (fault.Read None) r (λ a. AfterFile tells blocks name a (λ g. ⊥))
+  pub graph_unread : ReadFails [] name r → RefusesAsDue (fault.Read None) r (λ a. AfterFile contents blocks name a (λ g. ⊥))
   graph_unread failed a is out = inr (inl (out, subst (ReadFails [] name) (sym is) failed))
 
   -- its text has a fault
-  pub graph_fails : (f : GraphFault) → (f ≢ graph.Memory → IfSome (tells name) (λ bytes. graph_of blocks bytes ≡ Err f)) → RefusesAsDue (fault_of_graph f) r (λ a. AfterFile tells blocks name a (λ g. ⊥))
+  pub graph_fails : (f : GraphFault) → (f ≢ graph.Memory → IfSome (contents name) (λ bytes. graph_of blocks bytes ≡ Err f)) → RefusesAsDue (fault_of_graph f) r (λ a. AfterFile contents blocks name a (λ g. ⊥))
   graph_fails graph.Memory h a is out = inl out
   graph_fails graph.TooLong h a is out = inr (inr (inl (graph.TooLong, out, h (λ e. absurd cc))))
   graph_fails graph.NotJson h a is out = inr (inr (inl (graph.NotJson, out, h (λ e. absurd cc))))
@@ -86,7 +87,7 @@ module _ (tells : Contents) (blocks : List Named) (name : List ℕ) (r : Reading
   graph_fails (graph.Block p) h a is out = inr (inr (inl (graph.Block p, out, h (λ e. absurd cc))))
 
   -- a call that it refuses goes on with no graph
-  pub past_file : (a : Answer) (Then : Graph → Type 0) → UnlessMemory a (λ a. AfterFile tells blocks name a (λ g. ⊥)) → UnlessMemory a (λ a. AfterFile tells blocks name a Then)
+  pub past_file : (a : Answer) (Then : Graph → Type 0) → UnlessMemory a (λ a. AfterFile contents blocks name a (λ g. ⊥)) → UnlessMemory a (λ a. AfterFile contents blocks name a Then)
   past_file a Then (inl out) = inl out
   past_file a Then (inr (inl k)) = inr (inl k)
   past_file a Then (inr (inr (inl k))) = inr (inr (inl k))
@@ -122,15 +123,15 @@ ring_due text slack.Memory g r k a is out = inl out
 ring_due text (slack.Ring sends gain) g r k a is out = inr (inl (sends, gain, out, k))
 
 -- a sensor has no rows
-pub rows_due : {X : Type 0} (text : X → List ℕ) (late : LateRows) (f : RecordedFault) (tells : Contents) (g : Graph) (r : Reading) (Then : Answer → (ℕ → List Row) → Type 0) → CauseOfRows late f tells g [] r → AnswersAsDue text (Err (fault_of_rows f)) r (λ a. AfterRows late tells g [] a (Then a))
-rows_due text late rows.Memory tells g r Then k a is out = inl out
-rows_due text late (rows.Read actor) tells g r Then k a is out = inr (inl (actor, out, subst (SensorUnread late tells g actor []) (sym is) k))
-rows_due text late (rows.Sensor actor f) tells g r Then k a is out = inr (inr (inl (actor, f, out, k)))
-rows_due text late (rows.Late actor row seen limit) tells g r Then k a is out = inr (inr (inr (inl (actor, row, seen, limit, out, k.0, k.1))))
+pub rows_due : {X : Type 0} (text : X → List ℕ) (late : LateRows) (f : RecordedFault) (contents : Contents) (g : Graph) (r : Reading) (Then : Answer → (ℕ → List Row) → Type 0) → CauseOfRows late f contents g [] r → AnswersAsDue text (Err (fault_of_rows f)) r (λ a. AfterRows late contents g [] a (Then a))
+rows_due text late rows.Memory contents g r Then k a is out = inl out
+rows_due text late (rows.Read actor) contents g r Then k a is out = inr (inl (actor, out, subst (SensorUnread late contents g actor []) (sym is) k))
+rows_due text late (rows.Sensor actor f) contents g r Then k a is out = inr (inr (inl (actor, f, out, k)))
+rows_due text late (rows.Late actor row seen limit) contents g r Then k a is out = inr (inr (inr (inl (actor, row, seen, limit, out, k.0, k.1))))
 
 -- the rows were read
-pub read_due : {X : Type 0} (text : X → List ℕ) (made : Result X Fault) (tells : Contents) (g : Graph) (r : Reading) (all : ℕ → List Row) → AreRows tells g all → AnswersAsDue text made r (IsMeantBy g all) → AnswersAsDue text made r (λ a. AfterRows Taken tells g [] a (λ rows. IsMeantBy g rows a))
-read_due text made tells g r all are due a is h = ⊎_elim (λ (out : RefusedWith fault.Memory a). inl out) (λ (k : IsMeantBy g all a). inr (inr (inr (inr (all, are, (λ x. tt), k))))) (due a is h)
+pub read_due : {X : Type 0} (text : X → List ℕ) (made : Result X Fault) (contents : Contents) (g : Graph) (r : Reading) (all : ℕ → List Row) → AreRows contents g all → AnswersAsDue text made r (IsMeantBy g all) → AnswersAsDue text made r (λ a. AfterRows Taken contents g [] a (λ rows. IsMeantBy g rows a))
+read_due text made contents g r all are due a is h = ⊎_elim (λ (out : RefusedWith fault.Memory a). inl out) (λ (k : IsMeantBy g all a). inr (inr (inr (inr (all, are, (λ x. tt), k))))) (due a is h)
 
 -- the meaning is too long, or its tables are put
 pub long_due : {X : Type 0} (text : X → List ℕ) (g : Graph) (all : ℕ → List Row) (r : Reading) → IsTooLongForAll g all → AnswersAsDue text (Err (fault.Long None)) r (IsMeantBy g all)

@@ -1,11 +1,11 @@
 -- Platforms that have finished a run.
-use Rattle.std.proofs.Common.{◌≡◌, ◌++◌, ℕ, Bool, true, false, List, [], Option, None, Some, Result, Ok, Err, IfOk, IfErr, refl, sym, ap, subst, ◌∙◌, append-nil}
+use Rattle.std.proofs.Common.{◌≡◌, ◌++◌, ℕ, Bool, true, false, List, [], Option, None, Some, Result, Ok, Err, IfOk, IfErr, refl, sym, ap, subst, ◌∙◌, append-nil, inl, inr}
 use Rattle.std.specs.Prelude.{◌↔◌, flat_map, is_some}
 use Rattle.pt_types.specs.declared.rows.Row.{Row}
 use Rattle.pt_types.specs.declared.graph.Graph.{Graph}
 use Rattle.pt_types.specs.declared.firing.ActorFiring.{ActorFiring}
 use Rattle.pt_history.specs.declared.miss.Miss.{Miss}
-use Rattle.pt_schedule.specs.Schedule.{IsMissedByMeaning}
+use Rattle.pt_paced_laws.specs.Schedule.{IsMissedByMeaning}
 use Rattle.pt_semantics.specs.Lists.{IsIn}
 use Rattle.pt_semantics.specs.Meaning.{IsMeaning}
 use Rattle.pt_semantics.specs.Rows.{FitRows}
@@ -19,17 +19,15 @@ use Rattle.pt_tables.specs.Platforms.{AreInOrder, histories, platform_lines}
 use Rattle.pt_tables.proofs.InOrder.{in_order as lines_in_order}
 use Rattle.pt_monitors.specs.Platforms.{missed_by}
 use Rattle.pt_confluence.specs.Gathered.{AreTables, HaveFinished}
-use Rattle.pt_rounds.specs.HaveRun.{HaveRun}
-use Rattle.pt_sensors.specs.Asked.{Contents, Reading}
+use Rattle.pt_rounds.specs.Outcome.{IsOutcome as IsPacedOutcome}
+use Rattle.pt_io.specs.Calls.{Contents, Reading}
 use Rattle.pt_sensors.specs.Places.{of_run}
 use Rattle.pt_offsets.specs.Plans.{IsAdmitted, Parts}
 use Rattle.pt_turn.specs.declared.fault.TurnFault.{TurnFault}
-use Rattle.pt_turn.specs.declared.fault.TurnFault.TheVariants as turn
-use Rattle.pt_run.specs.declared.finished_run.Ran.{Ran}
-use Rattle.pt_run.specs.declared.plan_run.RunFault.{RunFault}
-use Rattle.pt_run.specs.declared.plan_run.RunFault.TheVariants as stop
+use Rattle.pt_run.specs.declared.outputs.Outputs.{Outputs}
+use Rattle.pt_run.specs.declared.outcome.Stopped.{Stopped}
 use Rattle.pt_run.specs.Readings.{Clocking}
-use Rattle.pt_run.specs.Runs.{AreHeldIf, CauseOfStop, HasOpened, HasRun, IsKept, IsOutput, HasOutputs, IsStop, IsText, IsTold, WentBy, log_if, paged_log}
+use Rattle.pt_run.specs.Runs.{AreHeldIf, CauseOfStop, HasOpened, IsOutcomeOver, IsKept, IsOutput, HasOutputs, IsStop, IsText, AreOutputs, IsOutcomeBy, log_if, paged_log}
 use Rattle.pt_run.proofs.Missed.{missed_in}
 
 pub in_order : (plan : Parts) (rows : ℕ → List Row) (platforms : List PlatformView) → AreAll plan rows platforms → AreInOrder plan.graph platforms
@@ -47,22 +45,22 @@ with_log plan platforms front text tables logged rows finished =
     let are = tables rows finished in (are.firings, are.meaning, logged plan.graph (in_order plan rows platforms finished.all) ∙ ap (λ z. z ++ log_text plan.graph (histories platforms)) are.written)
 
 -- so it is with a page for the log, or without one
-pub told_text : (plan : Parts) (log : Bool) (platforms : List PlatformView) (page : Option LogPage) (front : List ℕ) → ((rows : ℕ → List Row) → HaveFinished plan rows platforms → AreTables plan rows front) → is_some page ≡ log
+pub text_of_outputs : (plan : Parts) (log : Bool) (platforms : List PlatformView) (page : Option LogPage) (front : List ℕ) → ((rows : ℕ → List Row) → HaveFinished plan rows platforms → AreTables plan rows front) → is_some page ≡ log
     → IsText plan log platforms (front ++ paged_log page platforms)
-told_text plan log platforms None front tables is =
+text_of_outputs plan log platforms None front tables is =
     subst (λ asked. IsText plan asked platforms (front ++ [])) is (subst (IsText plan false platforms) (sym (append-nil front)) (without_log plan platforms front tables))
-told_text plan log platforms (Some page) front tables is =
+text_of_outputs plan log platforms (Some page) front tables is =
     subst (λ asked. IsText plan asked platforms (front ++ (log_head ++ flat_map platform_lines platforms))) is
     (with_log plan platforms front (front ++ (log_head ++ flat_map platform_lines platforms)) tables (λ g are. ap (λ lines. front ++ (log_head ++ lines)) (lines_in_order g platforms are)))
 
-pub have_finished : (plan : Parts) (rows : ℕ → List Row) (platforms : List PlatformView) → FitRows plan.graph rows → HaveRun plan (level_of plan.ranks) rows platforms None → HaveFinished plan rows platforms
+pub have_finished : (plan : Parts) (rows : ℕ → List Row) (platforms : List PlatformView) → FitRows plan.graph rows → IsPacedOutcome plan (level_of plan.ranks) rows platforms None → HaveFinished plan rows platforms
 have_finished plan rows platforms fit run = record { all = run.all; fit = fit; finished = λ i v at. (run.ends i v at).1; linked = run.linked refl }
 
 pub kept_finished : (plan : Parts) (rows : ℕ → List Row) (platforms : List PlatformView) → FitRows plan.graph rows → IsKept plan rows platforms None → HaveFinished plan rows platforms
 kept_finished plan rows platforms fit kept = record { all = kept.all; fit = fit; finished = λ i v at. (kept.ends i v at).1; linked = kept.linked refl }
 
 -- in a paced run the misses are those of the meaning
-pub missed_as_meant : (plan : Parts) (rows : ℕ → List Row) (platforms : List PlatformView) (misses : List Miss) (firings : List ActorFiring) → IsAdmitted plan → HaveRun plan (level_of plan.ranks) rows platforms None → misses ≡ flat_map missed_by platforms →
+pub missed_as_meant : (plan : Parts) (rows : ℕ → List Row) (platforms : List PlatformView) (misses : List Miss) (firings : List ActorFiring) → IsAdmitted plan → IsPacedOutcome plan (level_of plan.ranks) rows platforms None → misses ≡ flat_map missed_by platforms →
     IsMeaning plan.graph (rank_of plan.ranks) rows firings → (m : Miss) → IsIn m misses ↔ IsMissedByMeaning plan.graph firings m.actor m.tag m.reading m.limit
 missed_as_meant plan rows platforms misses firings admitted have missed meaning m =
     let kept = missed_in plan rows platforms have.all misses missed m in
@@ -70,47 +68,45 @@ missed_as_meant plan rows platforms misses firings admitted have missed meaning 
     ((λ mem. meant.0 (kept.0 mem)), (λ missed. kept.1 (meant.1 missed)))
 
 -- a run that finished, with its outputs
-has_outputs : (tells : Contents) (c : Clocking) (plan : Parts) (log : Bool) (platforms : List PlatformView) (ran : Ran) (run : HasRun tells c plan platforms None) → FitRows plan.graph (of_run plan.graph run.rows) → IsTold plan log platforms ran → HasOutputs tells c plan log ran
-has_outputs tells c plan log platforms ran run fit told =
+has_outputs : (contents : Contents) (c : Clocking) (plan : Parts) (log : Bool) (platforms : List PlatformView) (ran : Outputs) (run : IsOutcomeOver contents c plan platforms None) → FitRows plan.graph (of_run plan.graph run.rows) → AreOutputs plan log platforms ran → HasOutputs contents c plan log ran
+has_outputs contents c plan log platforms ran run fit reported =
     let rows : ℕ → List Row = of_run plan.graph run.rows in
-    let text = told.text rows (kept_finished plan rows platforms fit run.went.kept) in (
+    let text = reported.text rows (kept_finished plan rows platforms fit run.fact.kept) in (
       record {
-        run = record { admitted = run.admitted; rows = run.rows; sensors = run.sensors; in_time = run.in_time; went = subst (λ ps. WentBy c plan rows ps None) (sym told.platforms_are) run.went };
+        run = record { admitted = run.admitted; rows = run.rows; sensors = run.sensors; in_time = run.in_time; fact = subst (λ ps. IsOutcomeBy c plan rows ps None) (sym reported.platforms_are) run.fact };
         fit = fit;
         firings = text.0;
         meaning = text.1;
-        written = text.2 ∙ ap (λ ps. tables_text plan.graph text.0 ++ log_if log plan.graph ps) (sym told.platforms_are);
-        held = subst (AreHeldIf log) (sym told.platforms_are) told.held;
-        missed = told.misses ∙ ap (flat_map missed_by) (sym told.platforms_are);
-        missed_as_meant = λ paced. missed_as_meant plan rows platforms ran.misses.items text.0 run.admitted (run.went.paced paced) told.misses text.1;
+        written = text.2 ∙ ap (λ ps. tables_text plan.graph text.0 ++ log_if log plan.graph ps) (sym reported.platforms_are);
+        held = subst (AreHeldIf log) (sym reported.platforms_are) reported.held;
+        missed = reported.misses ∙ ap (flat_map missed_by) (sym reported.platforms_are);
+        missed_as_meant = λ paced. missed_as_meant plan rows platforms ran.misses.items text.0 run.admitted (run.fact.paced paced) reported.misses text.1;
       },
-      told.lines,
+      reported.lines,
     )
 
--- a run over the rows of the sensors' files, by how the platforms that were opened with them went
-pub run_of_went : (tells : Contents) (c : Clocking) (plan : Parts) (log : Bool) (fresh platforms : List PlatformView) (fault : Option (ℕ × TurnFault)) (result : Result Ran RunFault) (r : Reading) →
-    HasOpened tells plan fresh → ((other : Parts) (rows : ℕ → List Row) → AreReady other rows fresh → WentBy c other rows platforms fault) →
-    IfOk result (IsOutput fault plan log platforms) → IfErr result (IsStop fault platforms) → IfOk result (HasOutputs tells c plan log) × IfErr result (λ f. CauseOfStop f tells c plan r)
-run_of_went tells c plan log fresh platforms fault result r opened goes output stopped = (by_output result output, by_stop result stopped)
+-- a run over the rows of the sensors' files, by the outcome of the platforms that were opened with them
+pub run_of_outcome : (contents : Contents) (c : Clocking) (plan : Parts) (log : Bool) (opened platforms : List PlatformView) (fault : Option (ℕ × TurnFault)) (result : Result Outputs Stopped) (r : Reading) →
+    HasOpened contents plan opened → ((other : Parts) (rows : ℕ → List Row) → AreReady other rows opened → IsOutcomeBy c other rows platforms fault) →
+    IfOk result (IsOutput fault plan log platforms) → IfErr result (IsStop None fault platforms) → IfOk result (HasOutputs contents c plan log) × IfErr result (λ s. CauseOfStop s contents c plan r)
+run_of_outcome contents c plan log opened platforms fault result r has leaves output stopped = (by_output result output, by_stop fault refl result stopped)
   where
-    run : (ps : List PlatformView) (f : Option (ℕ × TurnFault)) → ps ≡ platforms → fault ≡ f → HasRun tells c plan ps f
+    run : (ps : List PlatformView) (f : Option (ℕ × TurnFault)) → ps ≡ platforms → fault ≡ f → IsOutcomeOver contents c plan ps f
     run ps f same is = record {
-      admitted = opened.admitted;
-      rows = opened.rows;
-      sensors = opened.sensors;
-      in_time = opened.in_time;
-      went =
-          subst (λ z. WentBy c plan (of_run plan.graph opened.rows) z f) (sym same)
-          (subst (λ z. WentBy c plan (of_run plan.graph opened.rows) platforms z) is (goes plan (of_run plan.graph opened.rows) opened.went));
+      admitted = has.admitted;
+      rows = has.rows;
+      sensors = has.sensors;
+      in_time = has.in_time;
+      fact =
+          subst (λ z. IsOutcomeBy c plan (of_run plan.graph has.rows) z f) (sym same)
+          (subst (λ z. IsOutcomeBy c plan (of_run plan.graph has.rows) platforms z) is (leaves plan (of_run plan.graph has.rows) has.fact));
     }
 
-    by_output : (result : Result Ran RunFault) → IfOk result (IsOutput fault plan log platforms) → IfOk result (HasOutputs tells c plan log)
-    by_output (Ok ran) (none, told) = has_outputs tells c plan log platforms ran (run platforms None refl none) opened.went.fit told
-    by_output (Err f) h = tt
+    by_output : (result : Result Outputs Stopped) → IfOk result (IsOutput fault plan log platforms) → IfOk result (HasOutputs contents c plan log)
+    by_output (Ok ran) (none, reported) = has_outputs contents c plan log platforms ran (run platforms None refl none) has.fact.fit reported
+    by_output (Err s) h = tt
 
-    by_stop : (result : Result Ran RunFault) → IfErr result (IsStop fault platforms) → IfErr result (λ f. CauseOfStop f tells c plan r)
-    by_stop (Ok ran) h = tt
-    by_stop (Err (stop.Rows f)) h = absurd h
-    by_stop (Err (stop.Long platform left)) h = run left.items (Some (platform, turn.Long)) h.1 h.0
-    by_stop (Err (stop.Late platform actor tag reading limit left)) h = run left.items (Some (platform, turn.Late actor tag reading limit)) h.1 h.0
-    by_stop (Err stop.Memory) h = tt
+    by_stop : (f : Option (ℕ × TurnFault)) → fault ≡ f → (result : Result Outputs Stopped) → IfErr result (IsStop None f platforms) → IfErr result (λ s. CauseOfStop s contents c plan r)
+    by_stop f is (Ok ran) h = tt
+    by_stop None is (Err s) h = inl (inl h.0, h.1)
+    by_stop (Some f) is (Err s) h = inr (f, h.0, run s.platforms.items (Some f) h.1 is)

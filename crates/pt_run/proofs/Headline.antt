@@ -20,13 +20,13 @@ use Rattle.pt_turn.specs.declared.fault.TurnFault.{TurnFault}
 use Rattle.pt_turn.specs.declared.fault.TurnFault.TheVariants as turn
 use Rattle.pt_turn.specs.All.{histories_of}
 use Rattle.pt_turn.specs.Platforms.{PlatformView}
-use Rattle.pt_together.specs.Asked.{EndsAt}
+use Rattle.pt_engine.specs.Asked.{EndsAt}
 use Rattle.pt_monitors.specs.Misses.{missed_of}
 use Rattle.pt_monitors.specs.Platforms.{missed_by}
 use Rattle.pt_tables.specs.Held.{IsHeldTurn}
 use Rattle.pt_tables.specs.Log.{log_text}
 use Rattle.pt_tables.specs.Platforms.{histories}
-use Rattle.pt_sensors.specs.Asked.{Contents}
+use Rattle.pt_io.specs.Calls.{Contents}
 use Rattle.pt_sensors.specs.Places.{of_run}
 use Rattle.pt_sensors.specs.declared.recorded_fault.LateRows.TheVariants.{Refused}
 use Rattle.pt_sensors.specs.Recorded.{AllPass, AreRows, SensorLate}
@@ -37,9 +37,10 @@ use Rattle.pt_run.specs.declared.fault.Fault.TheVariants as fault
 use Rattle.pt_words.specs.declared.orders.Command.TheVariants.{Run}
 use Rattle.pt_run.specs.Due.{AfterAdmission, Answer, HasRunBy, IsDue, IsDueTo, RefusedWith, UnlessMemory}
 use Rattle.pt_run.specs.Leaving.{PutsMeaning}
-use Rattle.pt_run.specs.OverFiles.{HasHeadline, WentByReadings, at_end, inputs_of}
+use Rattle.pt_run.specs.OverFiles.{HasHeadline, HasReadings, at_end, inputs_of}
 use Rattle.pt_run.specs.Headline.{AtEnd, ByReadings, EndAs, Headline, LeavesTurns, PutsTables, turns_at}
-use Rattle.pt_run.specs.Runs.{IsKept, RunsPaced}
+use Rattle.pt_rounds.specs.Outcome.{IsOutcome as IsPacedOutcome}
+use Rattle.pt_run.specs.Runs.{IsKept}
 use Rattle.pt_words.specs.Grammar.{Order, over}
 use Rattle.pt_run.specs.Written.{clocking, has_run, stop_of}
 use Rattle.pt_run.proofs.Stages.{by_admission, by_file, with_fault}
@@ -106,9 +107,9 @@ puts plan rows log vs Put h = record {
 }
 
 -- the late row of a fault is the one that the fault names
-same_late : (tells : Contents) (g : Graph) (actor row seen limit sensor number read by : ℕ) → ◌≡◌ {A = Option Fault} (Some (fault.LateRow actor row seen limit)) (Some (fault.LateRow sensor number read by)) → SensorLate tells g actor row seen limit → SensorLate tells g sensor number read by
-same_late tells g actor row seen limit sensor number read by e is =
-    subst (λ z. SensorLate tells g sensor number read z) limits (subst (λ z. SensorLate tells g sensor number z limit) seens (subst (λ z. SensorLate tells g sensor z seen limit) numbers (subst (λ z. SensorLate tells g z row seen limit) actors is)))
+same_late : (contents : Contents) (g : Graph) (actor row seen limit sensor number read by : ℕ) → ◌≡◌ {A = Option Fault} (Some (fault.LateRow actor row seen limit)) (Some (fault.LateRow sensor number read by)) → SensorLate contents g actor row seen limit → SensorLate contents g sensor number read by
+same_late contents g actor row seen limit sensor number read by e is =
+    subst (λ z. SensorLate contents g sensor number read z) limits (subst (λ z. SensorLate contents g sensor number z limit) seens (subst (λ z. SensorLate contents g sensor z seen limit) numbers (subst (λ z. SensorLate contents g z row seen limit) actors is)))
   where
     actors : actor ≡ sensor
     actors = cc
@@ -125,12 +126,12 @@ same_late tells g actor row seen limit sensor number read by e is =
 both : (b : Bool) → b ≡ true → b ≡ false → ⊥
 both b e h = cc
 
-module _ (tells : Contents) (blocks : List Named) (name : List ℕ) (workers : ℕ) (clock : ClockChoice) (log : Bool) (a : Answer) where
+module _ (contents : Contents) (blocks : List Named) (name : List ℕ) (workers : ℕ) (clock : ClockChoice) (log : Bool) (a : Answer) where
   abbrev By : ByReadings
-  By = WentByReadings (clocking workers clock a.left) a.left.platforms
+  By = HasReadings (clocking workers clock a.left) a.left.platforms
 
   abbrev Holds : Option Fault → Type 0
-  Holds o = Headline (inputs_of tells blocks) By name clock log o (ended a.left.platforms) a.left.misses a.wrote
+  Holds o = Headline (inputs_of contents blocks) By name clock log o (ended a.left.platforms) a.left.misses a.wrote
 
   -- a call without a run
   refused : (f : Fault) → RefusedWith f a → has_run (Some f) ≡ false → ((platform actor : ℕ) (tag : Tag) (reading limit : ℕ) → f ≢ fault.LateMessage platform actor tag reading limit) → ((actor row seen limit : ℕ) → f ≢ fault.LateRow actor row seen limit) → Holds (Some f)
@@ -141,12 +142,12 @@ module _ (tells : Contents) (blocks : List Named) (name : List ℕ) (workers : �
     late_row = λ actor row seen limit e. absurd (no_row actor row seen limit cc);
   }
 
-  late : (g : Graph) → IfSome (tells name) (λ bytes. graph_of blocks bytes ≡ Ok g) → (actor row seen limit : ℕ) → RefusedWith (fault.LateRow actor row seen limit) a → SensorLate tells g actor row seen limit → Holds (Some (fault.LateRow actor row seen limit))
+  late : (g : Graph) → IfSome (contents name) (λ bytes. graph_of blocks bytes ≡ Ok g) → (actor row seen limit : ℕ) → RefusedWith (fault.LateRow actor row seen limit) a → SensorLate contents g actor row seen limit → Holds (Some (fault.LateRow actor row seen limit))
   late g file actor row seen limit h is = record {
     run = λ e. absurd cc;
     nothing_else = λ e. (ap ended h.1.1, h.1.0, h.2);
     late_message = λ platform receiver tag reading past e. absurd cc;
-    late_row = λ sensor number read by e. (g, file, same_late tells g actor row seen limit sensor number read by e is);
+    late_row = λ sensor number read by e. (g, file, same_late contents g actor row seen limit sensor number read by e is);
   }
 
   module _ (plan : Parts) (all : ℕ → List Row) (admitted : IsAdmitted plan) (k : HasRunBy workers clock log a plan (of_run plan.graph all)) where
@@ -175,19 +176,19 @@ module _ (tells : Contents) (blocks : List Named) (name : List ℕ) (workers : �
 
     -- a paced run is stopped by a platform that needed too many claims
     never_late : (o : Option Fault) → a.fault ≡ o → (platform actor : ℕ) (tag : Tag) (reading limit : ℕ) → o ≡ Some (fault.LateMessage platform actor tag reading limit) → clock ≢ Paced
-    never_late o is platform actor tag reading limit e paced = late_not_long (subst (λ z. RunsPaced plan rows a.left.platforms (stop_of z)) (is ∙ e) (k.paced paced)).0
+    never_late o is platform actor tag reading limit e paced = late_not_long (subst (λ z. IsPacedOutcome plan (level_of plan.ranks) rows a.left.platforms (stop_of z)) (is ∙ e) (k.paced paced)).all_claims_made
       where
         late_not_long : turn.Late actor tag reading limit ≡ turn.Long → ⊥
         late_not_long same = cc
 
-    ran : (g : Graph) → IfSome (tells name) (λ bytes. graph_of blocks bytes ≡ Ok g) → plan.graph ≡ g → AreRows tells plan.graph all → AllPass Refused plan.graph all → Holds a.fault
+    ran : (g : Graph) → IfSome (contents name) (λ bytes. graph_of blocks bytes ≡ Ok g) → plan.graph ≡ g → AreRows contents plan.graph all → AllPass Refused plan.graph all → Holds a.fault
     ran g file same are in_time = record {
       run = λ e. record {
         graph = plan.graph;
         rank = rank_of plan.ranks;
         level = level_of plan.ranks;
         rows = rows;
-        file = subst (λ h. IfSome (tells name) (λ bytes. graph_of blocks bytes ≡ Ok h)) (sym same) file;
+        file = subst (λ h. IfSome (contents name) (λ bytes. graph_of blocks bytes ≡ Ok h)) (sym same) file;
         sensors = (all, are, in_time, refl);
         leaves = leaves;
         readings = record { plan = plan; graph = refl; levels = refl; readings = k.leaves.readings };
@@ -197,9 +198,9 @@ module _ (tells : Contents) (blocks : List Named) (name : List ℕ) (workers : �
       late_row = λ actor row seen limit e. absurd (both (has_run a.fault) k.ran (ap has_run e));
     }
 
-  over_graph : (g : Graph) → IfSome (tells name) (λ bytes. graph_of blocks bytes ≡ Ok g) → AfterAdmission tells g (name ∷ []) a (HasRunBy workers clock log a) → Holds a.fault
+  over_graph : (g : Graph) → IfSome (contents name) (λ bytes. graph_of blocks bytes ≡ Ok g) → AfterAdmission contents g (name ∷ []) a (HasRunBy workers clock log a) → Holds a.fault
   over_graph g file h =
-      by_admission tells a Holds g (name ∷ []) (HasRunBy workers clock log a) h
+      by_admission contents a Holds g (name ∷ []) (HasRunBy workers clock log a) h
       (λ actors is cycle. refused (fault.Cycle actors) is refl (λ platform actor tag reading limit e. absurd cc) (λ actor row seen limit e. absurd cc))
       (λ free send offset slack is first. refused (fault.Infeasible send offset slack) is refl (λ platform actor tag reading limit e. absurd cc) (λ actor row seen limit e. absurd cc))
       (λ free feasible sensor is unread. refused (fault.Read (Some sensor)) is refl (λ platform actor tag reading limit e. absurd cc) (λ actor row seen limit e. absurd cc))
@@ -207,13 +208,13 @@ module _ (tells : Contents) (blocks : List Named) (name : List ℕ) (workers : �
       (λ free feasible actor row seen limit is tardy. late g file actor row seen limit is tardy)
       (λ plan rows same admitted are in_time k. ran plan rows admitted k g file same are in_time)
 
-  holds : UnlessMemory a (IsDueTo (over (Run workers clock log) name) tells blocks) → Holds a.fault
-  holds (inl h) = with_fault tells a Holds fault.Memory h (refused fault.Memory h refl (λ platform actor tag reading limit e. absurd cc) (λ actor row seen limit e. absurd cc))
+  holds : UnlessMemory a (IsDueTo (over (Run workers clock log) name) contents blocks) → Holds a.fault
+  holds (inl h) = with_fault contents a Holds fault.Memory h (refused fault.Memory h refl (λ platform actor tag reading limit e. absurd cc) (λ actor row seen limit e. absurd cc))
   holds (inr h) =
-      by_file tells a Holds blocks name (λ g. AfterAdmission tells g (name ∷ []) a (HasRunBy workers clock log a)) h
+      by_file contents a Holds blocks name (λ g. AfterAdmission contents g (name ∷ []) a (HasRunBy workers clock log a)) h
       (λ is unread. refused (fault.Read None) is refl (λ platform actor tag reading limit e. absurd cc) (λ actor row seen limit e. absurd cc))
       (λ f is fails. refused (fault.Graph f) is refl (λ platform actor tag reading limit e. absurd cc) (λ actor row seen limit e. absurd cc))
       over_graph
 
-pub headline : (order : Option Order) (tells : Contents) (blocks : List Named) (a : Answer) → IsDue order tells blocks a → HasHeadline a.fault a.left order tells blocks a.wrote
-headline order tells blocks a due workers clock log name words = holds tells blocks name workers clock log a (subst (λ z. IsDue z tells blocks a) words due)
+pub headline : (order : Option Order) (contents : Contents) (blocks : List Named) (a : Answer) → IsDue order contents blocks a → HasHeadline a.fault a.left order contents blocks a.wrote
+headline order contents blocks a due workers clock log name words = holds contents blocks name workers clock log a (subst (λ z. IsDue z contents blocks a) words due)

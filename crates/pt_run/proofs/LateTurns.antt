@@ -17,7 +17,7 @@ use Rattle.pt_semantics.specs.Posting.{Posts, after_post}
 use Rattle.pt_semantics.specs.Taking.{IsOnTime, Takes, after_message}
 use Rattle.pt_semantics.specs.Turn.{IsTurn, Turn}
 use Rattle.pt_semantics.proofs.Lookups.{same_some}
-use Rattle.pt_fixed_order.proofs.Sound.{turn_reading}
+use Rattle.pt_fixed_order_laws.proofs.Sound.{turn_reading}
 use Rattle.pt_turn.specs.Running.{LastIsLate, ShowsLate, last_reading}
 
 -- posting keeps the last reading

@@ -14,7 +14,7 @@ use Rattle.pt_tables.specs.Log.{log_text}
 use Rattle.pt_tables.specs.Platforms.{histories}
 use Rattle.pt_confluence.specs.Gathered.{HaveFinished}
 use Rattle.pt_sensors.specs.declared.recorded_fault.LateRows.TheVariants.{Refused}
-use Rattle.pt_sensors.specs.Asked.{Contents}
+use Rattle.pt_io.specs.Calls.{Contents, Writing}
 use Rattle.pt_sensors.specs.Places.{of_run}
 use Rattle.pt_sensors.specs.Recorded.{AllPass, AreRows}
 use Rattle.pt_audit.proofs.Printing.{printed_is_lawful}
@@ -22,7 +22,6 @@ use Rattle.pt_words.specs.declared.orders.ClockChoice.{ClockChoice}
 use Rattle.pt_run.specs.declared.fault.Fault.{Fault}
 use Rattle.pt_run.specs.declared.fault.Fault.TheVariants as fault
 use Rattle.pt_words.specs.declared.orders.Command.TheVariants.{Run}
-use Rattle.pt_run.specs.Causes.{Writing}
 use Rattle.pt_run.specs.Due.{AfterAdmission, Answer, HasRunBy, IsDueTo, UnlessMemory}
 use Rattle.pt_run.specs.Leaving.{PutsMeaning, RunWith}
 use Rattle.pt_run.specs.LawfulRuns.{FinishedRunsAreLawful, ReplaysWriteLawfulLogs, RunsWriteLawfulLogs, WritesLawfulLog}
@@ -34,11 +33,11 @@ use Rattle.pt_run.proofs.Finished.{kept_finished}
 use Rattle.pt_run.proofs.Stages.{by_admission, by_file, with_fault}
 
 pub finished_is_lawful : FinishedRunsAreLawful
-finished_is_lawful tells c plan platforms misses text done short =
+finished_is_lawful contents c plan platforms misses text done short =
     let rows : ℕ → List Row = of_run plan.graph done.run.rows in
     printed_is_lawful plan rows platforms done.firings text done.run.admitted
-    (kept_finished plan rows platforms done.fit done.run.went.kept)
-    done.run.went.kept.legal (done.held refl) done.meaning done.written short
+    (kept_finished plan rows platforms done.fit done.run.fact.kept)
+    done.run.fact.kept.legal (done.held refl) done.meaning done.written short
 
 -- what was put, from finished platforms
 put_lawful : (left : Leaves) (plan : Parts) (rows : ℕ → List Row) (w : Writing) → IsAdmitted plan → (puts : PutsMeaning plan rows true left.platforms (Appends w.written_before w.written_now)) → HaveFinished plan rows left.platforms →
@@ -49,11 +48,11 @@ put_lawful left plan rows w admitted puts finished legal = (
   λ short. printed_is_lawful plan rows left.platforms puts.firings (tables_text plan.graph puts.firings ++ log_text plan.graph (histories left.platforms)) admitted finished legal (puts.held refl) puts.meaning refl short,
 )
 
-module _ (a : Answer) (workers : ℕ) (clock : ClockChoice) (tells : Contents) (blocks : List Named) (name : List ℕ) where
+module _ (a : Answer) (workers : ℕ) (clock : ClockChoice) (contents : Contents) (blocks : List Named) (name : List ℕ) where
   abbrev Lawful : Option Fault → Type 0
-  Lawful o = o ≡ None → RunWith tells blocks name (WritesLawfulLog a.wrote)
+  Lawful o = o ≡ None → RunWith contents blocks name (WritesLawfulLog a.wrote)
 
-  ran : (plan : Parts) (all : ℕ → List Row) → IfSome (tells name) (λ bytes. graph_of blocks bytes ≡ Ok plan.graph) → IsAdmitted plan → AreRows tells plan.graph all → AllPass Refused plan.graph all → HasRunBy workers clock true a plan (of_run plan.graph all) → Lawful a.fault
+  ran : (plan : Parts) (all : ℕ → List Row) → IfSome (contents name) (λ bytes. graph_of blocks bytes ≡ Ok plan.graph) → IsAdmitted plan → AreRows contents plan.graph all → AllPass Refused plan.graph all → HasRunBy workers clock true a plan (of_run plan.graph all) → Lawful a.fault
   ran plan all file admitted are in_time k none =
       let rows : ℕ → List Row = of_run plan.graph all in
       let puts = k.leaves.written none in
@@ -65,28 +64,28 @@ module _ (a : Answer) (workers : ℕ) (clock : ClockChoice) (tells : Contents) (
           rows = all;
           sensors = are;
           in_time = in_time;
-          went = put_lawful a.left plan rows a.wrote admitted puts (kept_finished plan rows a.left.platforms puts.fit (subst (λ o. IsKept plan rows a.left.platforms (stop_of o)) none k.leaves.kept)) k.leaves.kept.legal;
+          fact = put_lawful a.left plan rows a.wrote admitted puts (kept_finished plan rows a.left.platforms puts.fit (subst (λ o. IsKept plan rows a.left.platforms (stop_of o)) none k.leaves.kept)) k.leaves.kept.legal;
         };
       }
 
-  over_graph : (g : Graph) → IfSome (tells name) (λ bytes. graph_of blocks bytes ≡ Ok g) → AfterAdmission tells g (name ∷ []) a (HasRunBy workers clock true a) → Lawful a.fault
+  over_graph : (g : Graph) → IfSome (contents name) (λ bytes. graph_of blocks bytes ≡ Ok g) → AfterAdmission contents g (name ∷ []) a (HasRunBy workers clock true a) → Lawful a.fault
   over_graph g file h =
-      by_admission tells a Lawful g (name ∷ []) (HasRunBy workers clock true a) h (λ actors is cycle e. absurd cc) (λ free send offset slack is first e. absurd cc)
+      by_admission contents a Lawful g (name ∷ []) (HasRunBy workers clock true a) h (λ actors is cycle e. absurd cc) (λ free send offset slack is first e. absurd cc)
       (λ free feasible sensor is unread e. absurd cc) (λ free feasible sensor f is fails e. absurd cc) (λ free feasible actor row seen limit is tardy e. absurd cc)
-      (λ plan all same admitted are in_time k. ran plan all (subst (λ h. IfSome (tells name) (λ bytes. graph_of blocks bytes ≡ Ok h)) (sym same) file) admitted are in_time k)
+      (λ plan all same admitted are in_time k. ran plan all (subst (λ h. IfSome (contents name) (λ bytes. graph_of blocks bytes ≡ Ok h)) (sym same) file) admitted are in_time k)
 
-  of_due : UnlessMemory a (IsDueTo (over (Run workers clock true) name) tells blocks) → Lawful a.fault
-  of_due (inl h) = with_fault tells a Lawful fault.Memory h (λ e. absurd cc)
-  of_due (inr h) = by_file tells a Lawful blocks name (λ g. AfterAdmission tells g (name ∷ []) a (HasRunBy workers clock true a)) h (λ is unread e. absurd cc) (λ f is fails e. absurd cc) over_graph
+  of_due : UnlessMemory a (IsDueTo (over (Run workers clock true) name) contents blocks) → Lawful a.fault
+  of_due (inl h) = with_fault contents a Lawful fault.Memory h (λ e. absurd cc)
+  of_due (inr h) = by_file contents a Lawful blocks name (λ g. AfterAdmission contents g (name ∷ []) a (HasRunBy workers clock true a)) h (λ is unread e. absurd cc) (λ f is fails e. absurd cc) over_graph
 
 pub writes_lawful : RunsWriteLawfulLogs
 writes_lawful = of_due
 
 pub replay_writes_lawful : ReplaysWriteLawfulLogs
-replay_writes_lawful left tells blocks name air w h =
+replay_writes_lawful left contents blocks name air w h =
     let run = h.run refl in
     let over = run.over in
-    let went : LeavesReplay true None left w run.plan (of_run run.plan.graph over.rows) over.went.recorded = over.went.fact in
+    let leaves : LeavesReplay true None left w run.plan (of_run run.plan.graph over.rows) over.fact.recorded = over.fact.fact in
     let rows : ℕ → List Row = of_run run.plan.graph over.rows in
     record {
       plan = run.plan;
@@ -96,7 +95,7 @@ replay_writes_lawful left tells blocks name air w h =
         rows = over.rows;
         sensors = over.sensors;
         in_time = over.in_time;
-        went = put_lawful left run.plan rows w over.admitted (went.written refl)
-            (record { all = went.flown.all; fit = went.flown.fit; finished = λ i v at. (went.flown.ends i v at).1; linked = went.flown.linked refl }) went.flown.legal;
+        fact = put_lawful left run.plan rows w over.admitted (leaves.written refl)
+            (record { all = leaves.replayed.all; fit = leaves.replayed.fit; finished = λ i v at. (leaves.replayed.ends i v at).1; linked = leaves.replayed.linked refl }) leaves.replayed.legal;
       };
     }

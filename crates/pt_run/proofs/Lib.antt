@@ -3,12 +3,11 @@ pub mod CauseFields
 pub mod ByCause
 pub mod OneDue
 pub mod Puts
-pub mod Telling
 pub mod Ending
 pub mod OverPlan
 pub mod Planned
 pub mod Asks
-pub mod Told
+pub mod Reported
 pub mod Complete
 pub mod Agreeing
 pub mod Made
@@ -18,8 +17,8 @@ pub mod OnePlan
 pub mod SlackRuns
 pub mod LawfulRuns
 pub mod LateTurns
-pub mod FlownInBounds
-pub mod Flying
+pub mod ReplayInBounds
+pub mod ReplayEnds
 pub mod InBounds
 pub mod Replayed
 pub mod Begun
@@ -35,7 +34,7 @@ pub mod Audited
 pub mod RunsAgreeing
 pub mod Finished
 pub mod Missed
-pub mod WentPaced
+pub mod PacedOutcome
 pub mod OwnClocks
 pub mod OneStop
 pub mod StepsAgreeing

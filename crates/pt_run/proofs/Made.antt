@@ -1,11 +1,11 @@
 -- Runs over made inputs.
 use Rattle.std.proofs.Common.{◌≡◌, ◌≢◌, ℕ, suc, ◌+◌, ◌<◌, ◌≤◌, List, [], ◌∷◌, get_or, Option, None, Some, ℤ, pos, ◌-ℤ◌, ◌+ℤ◌, ◌<ℤ◌, length, option_map, slice_get, arith, append-nil, refl, sym, ap, subst, ◌∙◌, inl, ⊎_elim, inr}
-use Rattle.std.specs.Prelude.{MatchOption, String, flat_map}
+use Rattle.std.specs.Prelude.{MatchOption, String, flat_map, ⊤}
 use Rattle.std.specs.declared.alloc.Global.{Global}
 use Rattle.std.proofs.lemmas.Int.{ints}
 use Rattle.std.proofs.lemmas.Option.{slice_get-get_or, slice_get_within}
 use Rattle.pt_types.specs.declared.graph.Graph.{Graph}
-use Rattle.pt_types.specs.declared.graph.Unit.{Unit as Part}
+use Rattle.pt_types.specs.declared.graph.Unit.{Unit}
 use Rattle.pt_types.specs.declared.rows.Row.{Row}
 use Rattle.pt_history.specs.declared.miss.Miss.{Miss}
 use Rattle.pt_semantics.specs.Lists.{IsIn}
@@ -29,15 +29,15 @@ use Rattle.pt_monitors.specs.Platforms.{missed_by}
 use Rattle.pt_monitors.proofs.Members.{in_flat_map}
 use Rattle.pt_monitors.proofs.Missing.{lists_missed}
 use Rattle.pt_sensors.specs.Places.{of_run}
-use Rattle.pt_rounds.specs.HaveRun.{HaveRun}
+use Rattle.pt_rounds.specs.Outcome.{IsOutcome as IsPacedOutcome}
 use Rattle.pt_confluence.specs.Gathered.{HaveFinished}
 use Rattle.pt_run.proofs.Finished.{have_finished}
-use Rattle.pt_made.specs.Input.{made_graph, made_rows}
-use Rattle.pt_made.specs.Summary.{summary}
-use Rattle.pt_made.proofs.Fitting.{rows_fit}
-use Rattle.pt_made.proofs.Shape.{feasible, no_cycle}
-use Rattle.pt_made.proofs.Steady.{never_long}
-use Rattle.pt_made.proofs.Timely.{never_missed}
+use Rattle.pt_make.specs.Input.{made_graph, made_rows}
+use Rattle.pt_make.specs.Summary.{summary}
+use Rattle.pt_make.proofs.Fitting.{rows_fit}
+use Rattle.pt_make.proofs.Shape.{feasible, no_cycle}
+use Rattle.pt_make.proofs.Steady.{never_long}
+use Rattle.pt_make.proofs.Timely.{never_missed}
 use Rattle.pt_run.specs.declared.fault.Fault.{Fault}
 use Rattle.pt_turn.specs.All.{AreReady}
 use Rattle.pt_io.specs.Causes.{Appends, AppendsPart, Rose}
@@ -48,23 +48,22 @@ use Rattle.pt_run.specs.declared.outcome.Ending.{Ending}
 use Rattle.pt_run.specs.Texts.{left_by, left_by_run}
 use Rattle.pt_run.specs.Due.{IsDue}
 use Rattle.pt_run.specs.Written.{Leaves}
-use Rattle.pt_run.specs.Causes.{Writing}
+use Rattle.pt_io.specs.Calls.{Contents, Reading, Writing}
 use Rattle.pt_run.specs.declared.fault.Fault.TheVariants as fault
 use Rattle.pt_words.specs.Views.{in_words}
 use Rattle.pt_blocks.specs.declared.blocks.Named.{Named}
-use Rattle.pt_sensors.specs.Asked.{Contents, Reading}
 use Rattle.pt_sensors.proofs.Asking.{asks_none}
 use Rattle.pt_run.specs.Asks.{AsksOf}
 use Rattle.pt_run.specs.Faults.{fault_of_plan}
 use Rattle.pt_run.specs.Making.{IsMadeRun}
-use Rattle.pt_run.specs.Telling.{Tells}
+use Rattle.pt_run.specs.Reporting.{Reports}
 use Rattle.pt_causality.specs.declared.cycle.CycleFault.TheVariants as cycle
 use Rattle.pt_offsets.specs.Faults.{CauseOfPlan}
 use Rattle.pt_offsets.specs.declared.fault.OffsetFault.TheVariants as offset
 use Rattle.pt_offsets.specs.declared.fault.PlanFault.{PlanFault}
 use Rattle.pt_offsets.specs.declared.fault.PlanFault.TheVariants as unplanned
 use Rattle.pt_words.specs.Grammar.{make, order_of}
-use Rattle.pt_types.specs.Limits.{most_claims}
+use Rattle.pt_types.specs.Limits.{usual_claims}
 
 -- a made graph has a plan, unless memory runs out
 pub never_refused : (n : ℕ) (f : PlanFault) → CauseOfPlan f (made_graph n) → fault_of_plan f ≢ fault.Memory → ⊥
@@ -95,41 +94,44 @@ none_of (x ∷ xs) h = absurd (h x (inl refl))
 -- what holds of the graph of a plan, as the laws of made inputs ask for it
 record Known (plan : Parts) (g : Graph) (rows : ℕ → List Row) (y : Together) : Type 0 where
   pub levels : AreLevels g (level_of plan.ranks)
-  pub offsets : (u : Part) → HasOffset g u (offset_of plan.offsets u)
+  pub offsets : (u : Unit) → HasOffset g u (offset_of plan.offsets u)
   pub run : IsWholeRun g (level_of plan.ranks) rows y
 
 module _ (n : ℕ) (few : n ≤ 100) (plan : Parts) (is : plan.graph ≡ made_graph n) (admitted : IsAdmitted plan) (platforms : List PlatformView) where
   abbrev rows : ℕ → List Row
   rows = of_run (made_graph n) (made_rows n)
 
-  known : (fault : Option ℕ) (run : HaveRun plan (level_of plan.ranks) rows platforms fault) → Known plan (made_graph n) rows run.after.together
+  known : (fault : Option (ℕ × TurnFault)) (run : IsPacedOutcome plan (level_of plan.ranks) rows platforms fault) → Known plan (made_graph n) rows run.after.together
   known fault run = subst (λ g. Known plan g rows run.after.together) is (record { levels = admitted.levels; offsets = admitted.offsets.units; run = run.after.run })
 
   -- a platform's number
-  number_in : (fault : Option ℕ) (run : HaveRun plan (level_of plan.ranks) rows platforms fault) (i : ℕ) (v : PlatformView) → slice_get platforms i ≡ Some v → i < 4
+  number_in : (fault : Option (ℕ × TurnFault)) (run : IsPacedOutcome plan (level_of plan.ranks) rows platforms fault) (i : ℕ) (v : PlatformView) → slice_get platforms i ≡ Some v → i < 4
   number_in fault run i v at = subst (λ k. i < k) (run.all.count ∙ ap (λ (g : Graph). length g.platforms) is) (slice_get_within platforms i v at)
 
   -- no platform shows that it made all its claims
-  pub no_long : (fault : Option ℕ) (run : HaveRun plan (level_of plan.ranks) rows platforms fault) (i : ℕ) (v : PlatformView) → slice_get platforms i ≡ Some v → (g : Graph) → ShowsLong g (state_at v) → ⊥
-  no_long fault run i v at g shows =
+  pub no_long : (fault : Option (ℕ × TurnFault)) (run : IsPacedOutcome plan (level_of plan.ranks) rows platforms fault) (i : ℕ) (v : PlatformView) → slice_get platforms i ≡ Some v → ShowsLong v.plan.graph (state_at v) → ⊥
+  no_long fault run i v at shows =
       let k = known fault run in
       let below = never_long n few (level_of plan.ranks) (offset_of plan.offsets) k.levels k.offsets run.after.together k.run i (number_in fault run i v at) in
-      past (state_at v).claims (subst (λ (s : State). s.claims < most_claims) (run.after.states i v at) below) shows.all
+      let limit : v.plan.graph.claims ≡ usual_claims = ap (λ (p : Parts). p.graph.claims) (run.all.plans i v at) ∙ ap (λ (g : Graph). g.claims) is in
+      past (state_at v).claims (subst (λ (s : State). s.claims < usual_claims) (run.after.states i v at) below) (subst (λ n. n ≤ (state_at v).claims) limit shows.all)
     where
-      past : (k : ℕ) → k < most_claims → most_claims ≤ k → ⊥
+      past : (k : ℕ) → k < usual_claims → usual_claims ≤ k → ⊥
       past k h all = omega arith
 
-  -- the platform that was the first to make all its claims shows it
-  pub no_long_at : (number : ℕ) → HaveRun plan (level_of plan.ranks) rows platforms (Some number) → (v : PlatformView) → v ≡ get_or platforms number v → (shown : Option TurnFault) → shown ≡ v.fault → MatchOption shown (Unit {0}) (Shows v.plan.graph v.turns (state_at v)) → ⊥
-  no_long_at number run v indexed shown is_fault shows =
-      let (w, at, long, before) = run.ends in
-      let here : slice_get platforms number ≡ Some v = slice_get-get_or platforms number v (slice_get_within platforms number w at) ∙ ap Some (sym indexed) in
-      let same : w ≡ v = same_some w v (sym at ∙ here) in
-      let fault : shown ≡ Some Long = is_fault ∙ ap (λ (z : PlatformView). z.fault) (sym same) ∙ long in
-      no_long (Some number) run number v here v.plan.graph (subst (λ o. MatchOption o (Unit {0}) (Shows v.plan.graph v.turns (state_at v))) fault shows)
+  -- so none stopped the run
+  pub no_long_at : (f : ℕ × TurnFault) → IsPacedOutcome plan (level_of plan.ranks) rows platforms (Some f) → ⊥
+  no_long_at f run =
+      let (v, at, is_fault, shows, before) = run.ends in
+      let long : ShowsLong plan.graph (state_at v) = subst (Shows plan.graph v.turns (state_at v)) run.all_claims_made shows in
+      no_long (Some f) run f.0 v at (subst (λ (p : Parts). ShowsLong p.graph (state_at v)) (sym (run.all.plans f.0 v at)) long)
+
+  pub none_stopped : (stop : Option (ℕ × TurnFault)) → IsPacedOutcome plan (level_of plan.ranks) rows platforms stop → IsPacedOutcome plan (level_of plan.ranks) rows platforms None
+  none_stopped None run = run
+  none_stopped (Some f) run = absurd (no_long_at f run)
 
   -- nothing is missed
-  pub none_missed : (fault : Option ℕ) (run : HaveRun plan (level_of plan.ranks) rows platforms fault) → flat_map missed_by platforms ≡ []
+  pub none_missed : (fault : Option (ℕ × TurnFault)) (run : IsPacedOutcome plan (level_of plan.ranks) rows platforms fault) → flat_map missed_by platforms ≡ []
   none_missed fault run = none_of (flat_map missed_by platforms) (λ m mem.
       let v = in_flat_map missed_by platforms m mem in
       let at = place_of v.0 platforms v.1 in
@@ -145,7 +147,7 @@ module _ (n : ℕ) (few : n ≤ 100) (plan : Parts) (is : plan.graph ≡ made_gr
           (subst (λ g. IsMissed g turn m.actor m.tag m.limit) graph missed)
 
   -- what is made of finished platforms
-  pub made_run : (firings : List ActorFiring) (missed : ℕ) (text : List ℕ) → HaveRun plan (level_of plan.ranks) rows platforms None →
+  pub made_run : (firings : List ActorFiring) (missed : ℕ) (text : List ℕ) → IsPacedOutcome plan (level_of plan.ranks) rows platforms None →
       ((rows : ℕ → List Row) → HaveFinished plan rows platforms → IsMeaning plan.graph (rank_of plan.ranks) rows firings) → missed ≡ length (flat_map missed_by platforms) → text ≡ summary n firings missed → IsMadeRun n platforms text
   made_run firings missed text run gathered count written = record {
     plan = plan;
@@ -162,10 +164,10 @@ module _ (n : ℕ) (few : n ≤ 100) (plan : Parts) (is : plan.graph ≡ made_gr
 pub made_ready : (n : ℕ) (plan : Parts) (opened : List PlatformView) (rows : ℕ → List Row) → plan.graph ≡ made_graph n → rows ≡ made_rows n → AreReady plan (of_run plan.graph rows) opened → AreReady plan (of_run (made_graph n) (made_rows n)) opened
 made_ready n plan opened rows is same ready = subst (λ z. AreReady plan (of_run (made_graph n) z) opened) same (subst (λ g. AreReady plan (of_run g rows) opened) is ready)
 
--- a call that wrote all and missed nothing tells nothing
-pub tells_nothing : (outcome : Option Fault) (misses : List Miss) (n : ℕ) (written : Option (List ℕ)) → outcome ≡ None → misses ≡ [] → Tells outcome misses None (record { before = n; now = n; written_before = written; written_now = written })
-tells_nothing outcome misses n written is none =
-    subst (λ o. Tells o misses None (record { before = n; now = n; written_before = written; written_now = written })) (sym is) (inl (nothing_put written))
+-- a call that wrote all and missed nothing reports nothing
+pub reports_nothing : (outcome : Option Fault) (misses : List Miss) (n : ℕ) (written : Option (List ℕ)) → outcome ≡ None → misses ≡ [] → Reports outcome misses None (record { before = n; now = n; written_before = written; written_now = written })
+reports_nothing outcome misses n written is none =
+    subst (λ o. Reports o misses None (record { before = n; now = n; written_before = written; written_now = written })) (sym is) (inl (nothing_put written))
   where
     nothing_put : (o : Option (List ℕ)) → Appends o o []
     nothing_put None = tt
@@ -179,10 +181,10 @@ pub order_is : (words : List (String Global)) (order : Option declared.Order) (n
 order_is words order n k says is = sym (ap (option_map in_words) is) ∙ says
 
 -- it asks for no file
-pub asks_for_none : (words : List (String Global)) (order : Option declared.Order) (n k : ℕ) (outcome : Option Fault) (tells : Contents) (blocks : List Named) (asked : Option (List (List ℕ))) (faults : ℕ) → option_map in_words order ≡ order_of words → order ≡ Some (Make n k)
-    → AsksOf outcome (order_of words) tells blocks (record { asked_before = asked; asked_now = asked; before = faults; now = faults })
-asks_for_none words order n k outcome tells blocks asked faults says is =
-    subst (λ o. AsksOf outcome o tells blocks (record { asked_before = asked; asked_now = asked; before = faults; now = faults })) (order_is words order n k says is) (asks_none asked asked refl)
+pub asks_for_none : (words : List (String Global)) (order : Option declared.Order) (n k : ℕ) (outcome : Option Fault) (contents : Contents) (blocks : List Named) (asked : Option (List (List ℕ))) (faults : ℕ) → option_map in_words order ≡ order_of words → order ≡ Some (Make n k)
+    → AsksOf outcome (order_of words) contents blocks (record { asked_before = asked; asked_now = asked; before = faults; now = faults })
+asks_for_none words order n k outcome contents blocks asked faults says is =
+    subst (λ o. AsksOf outcome o contents blocks (record { asked_before = asked; asked_now = asked; before = faults; now = faults })) (order_is words order n k says is) (asks_none asked asked refl)
 
 -- what is gathered of the platforms of a plan
 pub gathered_as : (plan other : Parts) (platforms views : List PlatformView) (firings : List ActorFiring) → other ≡ plan → views ≡ platforms → ((rows : ℕ → List Row) → HaveFinished other rows views → IsMeaning other.graph (rank_of other.ranks) rows firings)
@@ -192,7 +194,7 @@ gathered_as plan other platforms views firings same seen h rows finished =
     (h rows (subst (λ (p : Parts). HaveFinished p rows views) (sym same) (subst (HaveFinished plan rows) (sym seen) finished)))
 
 -- a write of the summary failed
-pub made_part : (o : Ending) (number workers : ℕ) (platforms : List PlatformView) (text : List ℕ) (tells : Contents) (blocks : List Named) (r : Reading) (w : Writing) → o.fault ≡ Some fault.Write → left_by o ≡ left_by_run [] platforms → IsMadeRun number platforms text →
-    Rose w.before w.now → AppendsPart w.written_before w.written_now text → IsDue (Some (make number workers)) tells blocks (record { fault = o.fault; left = left_by o; read = r; wrote = w })
-made_part o number workers platforms text tells blocks r w is left made rose part =
+pub made_part : (o : Ending) (number workers : ℕ) (platforms : List PlatformView) (text : List ℕ) (contents : Contents) (blocks : List Named) (r : Reading) (w : Writing) → o.fault ≡ Some fault.Write → left_by o ≡ left_by_run [] platforms → IsMadeRun number platforms text →
+    Rose w.before w.now → AppendsPart w.written_before w.written_now text → IsDue (Some (make number workers)) contents blocks (record { fault = o.fault; left = left_by o; read = r; wrote = w })
+made_part o number workers platforms text contents blocks r w is left made rose part =
     inr (ap (λ (l : Leaves). l.misses) left, inr (is, rose, text, subst (λ (l : Leaves). IsMadeRun number l.platforms text) (sym left) made, part))

@@ -7,14 +7,14 @@ use Rattle.pt_history.specs.declared.miss.Miss.{Miss}
 use Rattle.pt_semantics.specs.Lists.{IsIn}
 use Rattle.pt_semantics.specs.Missed.{IsMissed}
 use Rattle.pt_semantics.proofs.Lookups.{none_some, same_some}
-use Rattle.pt_schedule.specs.Schedule.{HaveMissed}
+use Rattle.pt_paced_laws.specs.Schedule.{HaveMissed}
 use Rattle.pt_offsets.specs.Plans.{Parts}
 use Rattle.pt_turn.specs.Platforms.{PlatformView}
 use Rattle.pt_turn.specs.All.{AreAll, histories_of}
 use Rattle.pt_monitors.specs.Platforms.{missed_by}
 use Rattle.pt_monitors.proofs.Members.{flat_map_in, in_flat_map}
 use Rattle.pt_monitors.proofs.Missing.{lists_missed}
-use Rattle.pt_together.proofs.Listed.{member}
+use Rattle.pt_engine.proofs.Listed.{member}
 
 -- a member stands at some place, and what stands at a place is a member
 place : {X : Type 0} (xs : List X) (x : X) → IsIn x xs → (i : ℕ) × (slice_get xs i ≡ Some x)

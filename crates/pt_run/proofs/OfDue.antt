@@ -3,7 +3,7 @@ use Rattle.std.proofs.Common.{◌≡◌, ℕ, List, Option, None}
 use Rattle.std.specs.Prelude.{◌≢◌, ◌↔◌, [], flat_map}
 use Rattle.pt_blocks.specs.declared.blocks.Named.{Named}
 use Rattle.pt_monitors.specs.Platforms.{missed_by}
-use Rattle.pt_sensors.specs.Asked.{Contents}
+use Rattle.pt_io.specs.Calls.{Contents}
 use Rattle.pt_run.specs.Complete.{IsComplete, IsCompleteByAnyClock}
 use Rattle.pt_run.specs.Due.{Answer, IsDue}
 use Rattle.pt_run.specs.Exact.{IsExact}
@@ -22,31 +22,31 @@ use Rattle.pt_run.proofs.OneDue.{exactly}
 use Rattle.pt_run.proofs.Headline as headlines
 use Rattle.pt_run.proofs.Replayed as replays
 
-module _ (order : Option Order) (tells : Contents) (blocks : List Named) (a : Answer) (due : IsDue order tells blocks a) where
-  ends : Ends a.fault a.left order tells blocks a.read a.wrote
-  ends = due_ends tells blocks a order due
+module _ (order : Option Order) (contents : Contents) (blocks : List Named) (a : Answer) (due : IsDue order contents blocks a) where
+  ends : Ends a.fault a.left order contents blocks a.read a.wrote
+  ends = due_ends contents blocks a order due
 
-  pub headline : HasHeadline a.fault a.left order tells blocks a.wrote
-  headline = headlines.headline order tells blocks a due
+  pub headline : HasHeadline a.fault a.left order contents blocks a.wrote
+  headline = headlines.headline order contents blocks a due
 
-  pub replay_headline : IsReplayHeadline a.fault a.left order tells blocks a.wrote
-  replay_headline = replays.replay_headline order tells blocks a due
+  pub replay_headline : IsReplayHeadline a.fault a.left order contents blocks a.wrote
+  replay_headline = replays.replay_headline order contents blocks a due
 
-  pub exact : IsExact a.fault order tells blocks
-  exact = exactly order tells blocks a (comes.exact a.fault a.left order tells blocks a.read a.wrote ends) due
+  pub exact : IsExact a.fault order contents blocks
+  exact = exactly order contents blocks a (comes.exact a.fault a.left order contents blocks a.read a.wrote ends) due
 
-  pub complete_by_any_clock : IsCompleteByAnyClock a.fault a.left order tells blocks a.read a.wrote
-  complete_by_any_clock = completes.complete_by_any_clock a.fault a.left order tells blocks a.read a.wrote ends
+  pub complete_by_any_clock : IsCompleteByAnyClock a.fault a.left order contents blocks a.read a.wrote
+  complete_by_any_clock = completes.complete_by_any_clock a.fault a.left order contents blocks a.read a.wrote ends
 
   module _ (status : ℕ) (is : status ≡ status_of a.fault a.left.misses) where
-    pub complete : IsComplete status order tells blocks a.read a.wrote
-    complete = completes.complete status a.fault a.left order tells blocks a.read a.wrote is ends
+    pub complete : IsComplete status order contents blocks a.read a.wrote
+    complete = completes.complete status a.fault a.left order contents blocks a.read a.wrote is ends
 
-    pub complete_in_bounds : IsCompleteInBounds status order tells blocks a.read a.wrote
-    complete_in_bounds = in_bounds.complete_in_bounds status a.fault a.left order tells blocks a.read a.wrote is ends
+    pub complete_in_bounds : IsCompleteInBounds status order contents blocks a.read a.wrote
+    complete_in_bounds = in_bounds.complete_in_bounds status a.fault a.left order contents blocks a.read a.wrote is ends
 
     pub missed : (status ≡ 5) ↔ ((a.fault ≡ None) × (a.left.misses ≢ []))
-    missed = (caused status a.fault a.left order tells blocks a.read a.wrote is ends).missed
+    missed = (caused status a.fault a.left order contents blocks a.read a.wrote is ends).missed
 
     pub misses : a.fault ≡ None → a.left.misses ≡ flat_map missed_by a.left.platforms
-    misses = (caused status a.fault a.left order tells blocks a.read a.wrote is ends).missed_are
+    misses = (caused status a.fault a.left order contents blocks a.read a.wrote is ends).missed_are

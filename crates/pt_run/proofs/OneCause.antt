@@ -4,7 +4,7 @@ use Rattle.std.proofs.lemmas.Bool.{cases_lt}
 use Rattle.std.proofs.lemmas.Int.{ints}
 use Rattle.pt_tags.specs.declared.tag.Tag.{Tag}
 use Rattle.pt_types.specs.declared.graph.Graph.{Graph}
-use Rattle.pt_types.specs.declared.graph.Unit.{Unit as Part}
+use Rattle.pt_types.specs.declared.graph.Unit.{Unit}
 use Rattle.pt_types.specs.declared.kind.Kind.{Kind}
 use Rattle.pt_types.specs.declared.kind.Kind.TheVariants.{Send, Sensor}
 use Rattle.pt_types.specs.declared.firing.ActorFiring.{ActorFiring}
@@ -22,16 +22,15 @@ use Rattle.pt_semantics.proofs.Acyclic.{ranks_are_one}
 use Rattle.pt_semantics.proofs.Lookups.{eight_found, none_some, same_some}
 use Rattle.pt_sensors.specs.declared.recorded_fault.LateRows.{LateRows}
 use Rattle.pt_sensors.specs.declared.recorded_fault.LateRows.TheVariants.{Refused}
-use Rattle.pt_sensors.specs.Asked.{Contents}
+use Rattle.pt_io.specs.Calls.{Contents}
 use Rattle.pt_sensors.specs.Places.{of_run}
 use Rattle.pt_sensors.specs.Recorded.{AllPass, AreRows, HaveRows, InTime, IsLateRow, RowsOfKind, SensorFails, SensorLate}
-use Rattle.pt_run.specs.RunsAgreeing.{TellsSensors}
+use Rattle.pt_run.specs.RunsAgreeing.{ReportsSensors}
 use Rattle.pt_run.proofs.ByFault.{IsMeant}
 use Rattle.pt_run.proofs.RunsAgreeing.{rows_are_one}
 use Rattle.pt_run.specs.declared.fault.Fault.TheVariants as fault
 use Rattle.pt_run.specs.Causes.{IsTooLongForAll}
 use Rattle.pt_run.proofs.Complete.{agrees, ok_err, same_ok}
-use Rattle.pt_types.specs.Limits.{most_claims}
 
 pub same_err : {X E : Type 0} (x y : E) → ◌≡◌ {A = Result X E} (Err x) (Err y) → x ≡ y
 same_err x y e = cc
@@ -41,7 +40,7 @@ neither_less : (a b : ℕ) → (a < b → ⊥) → (b < a → ⊥) → a ≡ b
 neither_less a b not_less none = ⊎_elim (λ (l : a < b). absurd (not_less l)) (λ (ge : b ≤ a). ⊎_elim (λ (l : b < a). absurd (none l)) (λ (le : a ≤ b). omega (arith, ge, le)) (cases_lt b a)) (cases_lt a b)
 
 -- there is one first sender that can't send in time, with one offset and slack
-one_offset : (g : Graph) (u : Part) (o p : ℤ) → IsOffset g u o → IsOffset g u p → o ≡ p
+one_offset : (g : Graph) (u : Unit) (o p : ℤ) → IsOffset g u o → IsOffset g u p → o ≡ p
 one_offset g u o p h k =
     let (s, b, path, feeds, is) = h.some in
     let (t, c, other, feeds2, is2) = k.some in
@@ -79,66 +78,66 @@ one_late_row rows until bound row row2 seen seen2 limit limit2 h k =
 
 -- each actor has its rows, and none is refused
 abbrev pub AllHave : LateRows → Contents → Graph → Type 0
-AllHave late tells g = (rows : ℕ → List Row) × AreRows tells g rows × AllPass late g rows
+AllHave late contents g = (rows : ℕ → List Row) × AreRows contents g rows × AllPass late g rows
 
 same_sensor : (file file2 : List ℕ) (bound bound2 : ℕ) → Sensor file bound ≡ Sensor file2 bound2 → (file ≡ file2) × (bound ≡ bound2)
 same_sensor file file2 bound bound2 e = (cc, cc)
 
--- over files that are told one sensor at most is the first that gives no rows
-module _ (tells : Contents) (g : Graph) (told : TellsSensors tells g) where
-  pub fails_rows : (late : LateRows) (actor : ℕ) (f : RowFault) (rows : List Row) → SensorFails late tells g actor f → RowsOfKind tells (kind_of g actor) rows → ⊥
+-- over files with known contents one sensor at most is the first that gives no rows
+module _ (contents : Contents) (g : Graph) (reported : ReportsSensors contents g) where
+  pub fails_rows : (late : LateRows) (actor : ℕ) (f : RowFault) (rows : List Row) → SensorFails late contents g actor f → RowsOfKind contents (kind_of g actor) rows → ⊥
   fails_rows late actor f rows h are =
-      let (bytes, is) = told actor h.file h.bound h.sensor in
-      ok_err rows f (agrees rows_of (tells h.file) bytes (Ok rows) (Err f) is (subst (λ (k : Kind). RowsOfKind tells k rows) h.sensor are) h.fails)
+      let (bytes, is) = reported actor h.file h.bound h.sensor in
+      ok_err rows f (agrees rows_of (contents h.file) bytes (Ok rows) (Err f) is (subst (λ (k : Kind). RowsOfKind contents k rows) h.sensor are) h.fails)
 
-  late_rows : (actor row seen limit : ℕ) (rows : List Row) → SensorLate tells g actor row seen limit → RowsOfKind tells (kind_of g actor) rows → InTime g.until (kind_of g actor) rows → ⊥
+  late_rows : (actor row seen limit : ℕ) (rows : List Row) → SensorLate contents g actor row seen limit → RowsOfKind contents (kind_of g actor) rows → InTime g.until (kind_of g actor) rows → ⊥
   late_rows actor row seen limit rows h are in_time =
-      let (bytes, is) = told actor h.file h.bound h.sensor in
-      let same : rows ≡ h.rows = same_ok {E = RowFault} rows h.rows (agrees rows_of (tells h.file) bytes (Ok rows) (Ok h.rows) is (subst (λ (k : Kind). RowsOfKind tells k rows) h.sensor are) h.read) in
+      let (bytes, is) = reported actor h.file h.bound h.sensor in
+      let same : rows ≡ h.rows = same_ok {E = RowFault} rows h.rows (agrees rows_of (contents h.file) bytes (Ok rows) (Ok h.rows) is (subst (λ (k : Kind). RowsOfKind contents k rows) h.sensor are) h.read) in
       let passes : late_row h.bound g.until rows ≡ None = subst (λ (k : Kind). InTime g.until k rows) h.sensor in_time in
       none_some row (sym passes ∙ ap (late_row h.bound g.until) same ∙ h.is_late.first)
 
   -- the rows of a sensor, of which one is late
-  rows_there : (actor row seen limit : ℕ) (h : SensorLate tells g actor row seen limit) → RowsOfKind tells (kind_of g actor) h.rows
-  rows_there actor row seen limit h = subst (λ (k : Kind). RowsOfKind tells k h.rows) (sym h.sensor) h.read
+  rows_there : (actor row seen limit : ℕ) (h : SensorLate contents g actor row seen limit) → RowsOfKind contents (kind_of g actor) h.rows
+  rows_there actor row seen limit h = subst (λ (k : Kind). RowsOfKind contents k h.rows) (sym h.sensor) h.read
 
-  fails_earlier : (late : LateRows) (actor n : ℕ) (f : RowFault) → SensorFails late tells g actor f → HaveRows late tells g n → actor < n → ⊥
+  fails_earlier : (late : LateRows) (actor n : ℕ) (f : RowFault) → SensorFails late contents g actor f → HaveRows late contents g n → actor < n → ⊥
   fails_earlier late actor n f h have l = let (rows, are, passes) = have actor l in fails_rows late actor f rows h are
 
-  late_earlier : (actor n row seen limit : ℕ) → SensorLate tells g actor row seen limit → HaveRows Refused tells g n → actor < n → ⊥
+  late_earlier : (actor n row seen limit : ℕ) → SensorLate contents g actor row seen limit → HaveRows Refused contents g n → actor < n → ⊥
   late_earlier actor n row seen limit h have l = let (rows, are, passes) = have actor l in late_rows actor row seen limit rows h are passes
 
-  pub one_fails : (late : LateRows) (actor other : ℕ) (f e : RowFault) → SensorFails late tells g actor f → SensorFails late tells g other e → fault.Sensor other e ≡ fault.Sensor actor f
+  pub one_fails : (late : LateRows) (actor other : ℕ) (f e : RowFault) → SensorFails late contents g actor f → SensorFails late contents g other e → fault.Sensor other e ≡ fault.Sensor actor f
   one_fails late actor other f e h k =
       let same : other ≡ actor = neither_less other actor (fails_earlier late other actor e k h.earlier) (fails_earlier late actor other f h k.earlier) in
-      let moved : SensorFails late tells g actor e = subst (λ z. SensorFails late tells g z e) same k in
+      let moved : SensorFails late contents g actor e = subst (λ z. SensorFails late contents g z e) same k in
       let files = same_sensor moved.file h.file moved.bound h.bound (sym moved.sensor ∙ h.sensor) in
-      let (bytes, is) = told actor h.file h.bound h.sensor in
-      let faults : e ≡ f = same_err {X = List Row} e f (agrees rows_of (tells h.file) bytes (Err e) (Err f) is (subst (λ z. IfSome (tells z) (λ bytes. rows_of bytes ≡ Err e)) files.0 moved.fails) h.fails) in
+      let (bytes, is) = reported actor h.file h.bound h.sensor in
+      let faults : e ≡ f = same_err {X = List Row} e f (agrees rows_of (contents h.file) bytes (Err e) (Err f) is (subst (λ z. IfSome (contents z) (λ bytes. rows_of bytes ≡ Err e)) files.0 moved.fails) h.fails) in
       λ i. fault.Sensor (same i) (faults i)
 
-  pub fails_late : (actor other row seen limit : ℕ) (f : RowFault) → SensorFails Refused tells g actor f → SensorLate tells g other row seen limit → ⊥
+  pub fails_late : (actor other row seen limit : ℕ) (f : RowFault) → SensorFails Refused contents g actor f → SensorLate contents g other row seen limit → ⊥
   fails_late actor other row seen limit f h k =
       let same : other ≡ actor = neither_less other actor (late_earlier other actor row seen limit k h.earlier) (fails_earlier Refused actor other f h k.earlier) in
-      let moved : SensorLate tells g actor row seen limit = subst (λ z. SensorLate tells g z row seen limit) same k in
+      let moved : SensorLate contents g actor row seen limit = subst (λ z. SensorLate contents g z row seen limit) same k in
       fails_rows Refused actor f moved.rows h (rows_there actor row seen limit moved)
 
-  pub one_late : (actor other row row2 seen seen2 limit limit2 : ℕ) → SensorLate tells g actor row seen limit → SensorLate tells g other row2 seen2 limit2 → fault.LateRow other row2 seen2 limit2 ≡ fault.LateRow actor row seen limit
+  pub one_late : (actor other row row2 seen seen2 limit limit2 : ℕ) → SensorLate contents g actor row seen limit → SensorLate contents g other row2 seen2 limit2 → fault.LateRow other row2 seen2 limit2 ≡ fault.LateRow actor row seen limit
   one_late actor other row row2 seen seen2 limit limit2 h k =
       let same : other ≡ actor = neither_less other actor (late_earlier other actor row2 seen2 limit2 k h.earlier) (late_earlier actor other row seen limit h k.earlier) in
-      let moved : SensorLate tells g actor row2 seen2 limit2 = subst (λ z. SensorLate tells g z row2 seen2 limit2) same k in
+      let moved : SensorLate contents g actor row2 seen2 limit2 = subst (λ z. SensorLate contents g z row2 seen2 limit2) same k in
       let files = same_sensor moved.file h.file moved.bound h.bound (sym moved.sensor ∙ h.sensor) in
-      let (bytes, is) = told actor h.file h.bound h.sensor in
-      let rows : moved.rows ≡ h.rows = same_ok {E = RowFault} moved.rows h.rows (agrees rows_of (tells h.file) bytes (Ok moved.rows) (Ok h.rows) is (subst (λ z. IfSome (tells z) (λ bytes. rows_of bytes ≡ Ok moved.rows)) files.0 moved.read) h.read) in
+      let (bytes, is) = reported actor h.file h.bound h.sensor in
+      let rows : moved.rows ≡ h.rows = same_ok {E = RowFault} moved.rows h.rows (agrees rows_of (contents h.file) bytes (Ok moved.rows) (Ok h.rows) is (subst (λ z. IfSome (contents z) (λ bytes. rows_of bytes ≡ Ok moved.rows)) files.0 moved.read) h.read) in
       let is_late : IsLateRow h.rows g.until h.bound row2 seen2 limit2 = subst (λ b. IsLateRow h.rows g.until b row2 seen2 limit2) files.1 (subst (λ rs. IsLateRow rs g.until moved.bound row2 seen2 limit2) rows moved.is_late) in
       let parts = one_late_row h.rows g.until h.bound row2 row seen2 seen limit2 limit is_late h.is_late in
       λ i. fault.LateRow (same i) (parts.0 i) (parts.1 i) (parts.2 i)
 
   -- where all sensors give rows none is such
-  pub fails_all : (late : LateRows) (actor : ℕ) (f : RowFault) → SensorFails late tells g actor f → AllHave late tells g → ⊥
+  pub fails_all : (late : LateRows) (actor : ℕ) (f : RowFault) → SensorFails late contents g actor f → AllHave late contents g → ⊥
   fails_all late actor f h (rows, are, pass) = fails_rows late actor f (rows actor) h (are actor)
 
-  pub late_all : (actor row seen limit : ℕ) → SensorLate tells g actor row seen limit → AllHave Refused tells g → ⊥
+  pub late_all : (actor row seen limit : ℕ) → SensorLate contents g actor row seen limit → AllHave Refused contents g → ⊥
   late_all actor row seen limit h (rows, are, pass) = late_rows actor row seen limit (rows actor) h (are actor) (pass actor)
 
 -- a world makes one firing
@@ -178,10 +177,10 @@ module _ (g : Graph) (rank : ℕ → ℕ) where
       ended xs h.firings (at_start g rows) h.world meaning h.steps (subst (λ n. length xs ≤ n) (sym h.count) le) h.more.0 h.more.1 h.more.2 h.more.3 h.more.4
 
 -- a meaning whose tables are written is not too long
-pub meant_long : (tells : Contents) (g : Graph) (text : List ℕ) (rows : ℕ → List Row) → TellsSensors tells g → AreRows tells g rows → IsMeant tells g text → IsTooLongForAll g rows → ⊥
-meant_long tells g text rows told are meant too_long =
+pub meant_long : (contents : Contents) (g : Graph) (text : List ℕ) (rows : ℕ → List Row) → ReportsSensors contents g → AreRows contents g rows → IsMeant contents g text → IsTooLongForAll g rows → ⊥
+meant_long contents g text rows reported are meant too_long =
     let means = meant.tables.means in
-    let meaning : IsMeaning g means.rank (of_run g rows) meant.tables.firings = subst (λ rs. IsMeaning g means.rank (of_run g rs) meant.tables.firings) (rows_are_one tells g meant.rows rows told meant.sensors are) means.meaning in
-    not_longer g too_long.rank (of_run g rows) meant.tables.firings (most_claims * length g.platforms)
+    let meaning : IsMeaning g means.rank (of_run g rows) meant.tables.firings = subst (λ rs. IsMeaning g means.rank (of_run g rs) meant.tables.firings) (rows_are_one contents g meant.rows rows reported meant.sensors are) means.meaning in
+    not_longer g too_long.rank (of_run g rows) meant.tables.firings (g.claims * length g.platforms)
     (subst (λ rank. IsMeaning g rank (of_run g rows) meant.tables.firings) (ranks_are_one g means.rank too_long.rank means.ranks too_long.ranks) meaning)
     meant.tables.fact too_long.longer

@@ -17,7 +17,7 @@ use Rattle.pt_offsets.specs.Margins.{IsFirstInfeasible}
 use Rattle.pt_offsets.specs.Plans.{IsAdmitted, Parts}
 use Rattle.pt_sensors.specs.declared.fault.RowFault.{RowFault}
 use Rattle.pt_sensors.specs.declared.recorded_fault.LateRows.TheVariants.{Refused, Taken}
-use Rattle.pt_sensors.specs.Asked.{Contents}
+use Rattle.pt_io.specs.Calls.{Contents}
 use Rattle.pt_sensors.specs.Places.{of_run}
 use Rattle.pt_sensors.specs.Recorded.{AllPass, AreRows, SensorFails, SensorLate}
 use Rattle.pt_air.specs.AirOf.{air_of}
@@ -35,7 +35,7 @@ use Rattle.pt_run.specs.Exact.{GraphKnown, IsAlike, IsCutShort, IsDecided, IsExa
 use Rattle.pt_run.specs.Making.{IsMadeRun}
 use Rattle.pt_run.specs.Migrating.{IsMigrated}
 use Rattle.pt_run.specs.Replaying.{has_replayed}
-use Rattle.pt_run.specs.RunsAgreeing.{TellsSensors}
+use Rattle.pt_run.specs.RunsAgreeing.{ReportsSensors}
 use Rattle.pt_words.specs.Grammar.{Order, over, make, migrate, audit, replay}
 use Rattle.pt_run.specs.Written.{FitOnAll, IsChecked, IsTables, has_run}
 use Rattle.pt_run.proofs.ByCause.{CanAudit, ComesByCause, Defines, ReadsRows, WantsAir, WantsGraph, WantsLog, WantsRows, refused_as}
@@ -62,19 +62,19 @@ module _ (o : Option Fault) where
   short_air wants = ⊎_elim (λ (h : WantsRows o). short_rows h) (λ (is : o ≡ Some fault.ReadAir). short fault.ReadAir is tt) wants
 
 -- an order over the graph file with this name, which refuses its graph as this command does; `a` is the answer of the call
-module _ (order : Order) (c : Command) (name : List ℕ) (alike : refused_as (Some order) ≡ Some (over c name)) (tells : Contents) (blocks : List Named) (a : Answer) (x : ComesByCause a.fault (Some order) tells blocks) where
+module _ (order : Order) (c : Command) (name : List ℕ) (alike : refused_as (Some order) ≡ Some (over c name)) (contents : Contents) (blocks : List Named) (a : Answer) (x : ComesByCause a.fault (Some order) contents blocks) where
   -- if this answer is due, and decided by known files, the call ends so
   abbrev Comes : Option Fault → Type 0
-  Comes y = IsDecided y order tells blocks → IsCutShort a.fault ⊎ IsAlike y a.fault
+  Comes y = IsDecided y order contents blocks → IsCutShort a.fault ⊎ IsAlike y a.fault
 
   abbrev IsFile : Graph → Type 0
-  IsFile g = IfSome (tells name) (λ bytes. graph_of blocks bytes ≡ Ok g)
+  IsFile g = IfSome (contents name) (λ bytes. graph_of blocks bytes ≡ Ok g)
 
-  defines : (d : Result Graph GraphFault) → IsKnown tells name → IfSome (tells name) (λ bytes. graph_of blocks bytes ≡ d) → Defines (refused_as (Some order)) tells blocks (over c) d
-  defines d told file = record { name = name; words = alike; bytes = told.0; told = told.1; defines = of_bytes (tells name) told.0 (λ bytes. graph_of blocks bytes ≡ d) told.1 file }
+  defines : (d : Result Graph GraphFault) → IsKnown contents name → IfSome (contents name) (λ bytes. graph_of blocks bytes ≡ d) → Defines (refused_as (Some order)) contents blocks (over c) d
+  defines d reported file = record { name = name; words = alike; bytes = reported.0; reported = reported.1; defines = of_bytes (contents name) reported.0 (λ bytes. graph_of blocks bytes ≡ d) reported.1 file }
 
-  module _ (graph_known : GraphKnown order tells → IsKnown tells name) (rows_known : RowsKnown order tells blocks → TellsAll tells blocks name) where
-    bad : (f : GraphFault) → IfSome (tells name) (λ bytes. graph_of blocks bytes ≡ Err f) → Comes (Some (fault.Graph f))
+  module _ (graph_known : GraphKnown order contents → IsKnown contents name) (rows_known : RowsKnown order contents blocks → TellsAll contents blocks name) where
+    bad : (f : GraphFault) → IfSome (contents name) (λ bytes. graph_of blocks bytes ≡ Err f) → Comes (Some (fault.Graph f))
     bad f file d = ⊎_elim (λ (is : a.fault ≡ Some (fault.Graph f)). inr is) (λ (wants : WantsGraph a.fault). inl (short_graph a.fault wants)) (x.graph c f (defines (Err f) (graph_known d) file))
 
     cyclic : (g : Graph) → IsFile g → (actors : List ℕ) → IsFreeCycle g actors → Comes (Some (fault.Cycle actors))
@@ -87,78 +87,78 @@ module _ (order : Order) (c : Command) (name : List ℕ) (alike : refused_as (So
         ⊎_elim (λ (h : a.fault ≡ Some (fault.Infeasible send offset slack)). inr h) (λ (wants : WantsGraph a.fault). inl (short_graph a.fault wants))
         (x.infeasible c g send offset slack judges (defines (Ok g) (graph_known d) file) free is)
 
-    reads : (g : Graph) → IsFile g → NoFreeCycle g → (AsksFeasible c → IsFeasible g) → TellsAll tells blocks name → ReadsRows (Some order) tells blocks c g
+    reads : (g : Graph) → IsFile g → NoFreeCycle g → (AsksFeasible c → IsFeasible g) → TellsAll contents blocks name → ReadsRows (Some order) contents blocks c g
     reads g file free feasible all = record {
-      graph = defines (Ok g) (all.bytes, all.told) file;
+      graph = defines (Ok g) (all.bytes, all.reported) file;
       no_free_cycle = free;
       feasible = feasible;
-      files = all.files g (of_bytes (tells name) all.bytes (λ bytes. graph_of blocks bytes ≡ Ok g) all.told file);
+      files = all.files g (of_bytes (contents name) all.bytes (λ bytes. graph_of blocks bytes ≡ Ok g) all.reported file);
     }
 
-    fails : (g : Graph) → IsFile g → NoFreeCycle g → (AsksFeasible c → IsFeasible g) → (actor : ℕ) (f : RowFault) → OfRows c (λ late. SensorFails late tells g actor f) → Comes (Some (fault.Sensor actor f))
+    fails : (g : Graph) → IsFile g → NoFreeCycle g → (AsksFeasible c → IsFeasible g) → (actor : ℕ) (f : RowFault) → OfRows c (λ late. SensorFails late contents g actor f) → Comes (Some (fault.Sensor actor f))
     fails g file free feasible actor f is d =
         ⊎_elim (λ (h : a.fault ≡ Some (fault.Sensor actor f)). inr h) (λ (wants : WantsRows a.fault). inl (short_rows a.fault wants)) (x.sensor c g actor f (reads g file free feasible (rows_known d)) is)
 
 -- an order that is refused as a run
-module _ (order : Order) (workers : ℕ) (clock : ClockChoice) (log : Bool) (name : List ℕ) (alike : refused_as (Some order) ≡ Some (over (Run workers clock log) name)) (tells : Contents) (blocks : List Named) (a : Answer) (x : ComesByCause a.fault (Some order) tells blocks)
-    (graph_known : GraphKnown order tells → IsKnown tells name) (rows_known : RowsKnown order tells blocks → TellsAll tells blocks name) where
+module _ (order : Order) (workers : ℕ) (clock : ClockChoice) (log : Bool) (name : List ℕ) (alike : refused_as (Some order) ≡ Some (over (Run workers clock log) name)) (contents : Contents) (blocks : List Named) (a : Answer) (x : ComesByCause a.fault (Some order) contents blocks)
+    (graph_known : GraphKnown order contents → IsKnown contents name) (rows_known : RowsKnown order contents blocks → TellsAll contents blocks name) where
   abbrev run : Command
   run = Run workers clock log
 
-  tardy : (g : Graph) → IfSome (tells name) (λ bytes. graph_of blocks bytes ≡ Ok g) → NoFreeCycle g → IsFeasible g → (actor row seen limit : ℕ) → SensorLate tells g actor row seen limit → Comes order run name alike tells blocks a x (Some (fault.LateRow actor row seen limit))
+  tardy : (g : Graph) → IfSome (contents name) (λ bytes. graph_of blocks bytes ≡ Ok g) → NoFreeCycle g → IsFeasible g → (actor row seen limit : ℕ) → SensorLate contents g actor row seen limit → Comes order run name alike contents blocks a x (Some (fault.LateRow actor row seen limit))
   tardy g file free feasible actor row seen limit is d =
       ⊎_elim (λ (h : a.fault ≡ Some (fault.LateRow actor row seen limit)). inr h) (λ (wants : WantsRows a.fault). inl (short_rows a.fault wants))
-      (x.late_row workers clock log g actor row seen limit (reads order run name alike tells blocks a x graph_known rows_known g file free (λ e. feasible) (rows_known d)) is)
+      (x.late_row workers clock log g actor row seen limit (reads order run name alike contents blocks a x graph_known rows_known g file free (λ e. feasible) (rows_known d)) is)
 
-  admitted : (b : Answer) (g : Graph) → IfSome (tells name) (λ bytes. graph_of blocks bytes ≡ Ok g) → (Then : Parts → (ℕ → List Row) → Type 0) → AfterAdmission tells g (name ∷ []) b Then →
-      ((plan : Parts) (rows : ℕ → List Row) → plan.graph ≡ g → IsAdmitted plan → AreRows tells plan.graph rows → AllPass Refused plan.graph rows → Then plan (of_run plan.graph rows) → Comes order run name alike tells blocks a x b.fault) → Comes order run name alike tells blocks a x b.fault
+  admitted : (b : Answer) (g : Graph) → IfSome (contents name) (λ bytes. graph_of blocks bytes ≡ Ok g) → (Then : Parts → (ℕ → List Row) → Type 0) → AfterAdmission contents g (name ∷ []) b Then →
+      ((plan : Parts) (rows : ℕ → List Row) → plan.graph ≡ g → IsAdmitted plan → AreRows contents plan.graph rows → AllPass Refused plan.graph rows → Then plan (of_run plan.graph rows) → Comes order run name alike contents blocks a x b.fault) → Comes order run name alike contents blocks a x b.fault
   admitted b g file Then h on =
-      by_admission tells b (Comes order run name alike tells blocks a x) g (name ∷ []) Then h
-      (λ actors out is. cyclic order run name alike tells blocks a x graph_known rows_known g file actors is)
-      (λ free send offset slack out is. slow order run name alike tells blocks a x graph_known rows_known g file tt free send offset slack is)
+      by_admission contents b (Comes order run name alike contents blocks a x) g (name ∷ []) Then h
+      (λ actors out is. cyclic order run name alike contents blocks a x graph_known rows_known g file actors is)
+      (λ free send offset slack out is. slow order run name alike contents blocks a x graph_known rows_known g file tt free send offset slack is)
       (λ free feasible actor out is d. absurd d)
-      (λ free feasible actor f out is. fails order run name alike tells blocks a x graph_known rows_known g file free (λ e. feasible) actor f is)
+      (λ free feasible actor f out is. fails order run name alike contents blocks a x graph_known rows_known g file free (λ e. feasible) actor f is)
       (λ free feasible actor row seen limit out is. tardy g file free feasible actor row seen limit is) on
 
-  on_file : (b : Answer) (Then : Graph → Type 0) → AfterFile tells blocks name b Then → ((g : Graph) → IfSome (tells name) (λ bytes. graph_of blocks bytes ≡ Ok g) → Then g → Comes order run name alike tells blocks a x b.fault) → Comes order run name alike tells blocks a x b.fault
-  on_file b Then h on = by_file tells b (Comes order run name alike tells blocks a x) blocks name Then h (λ out is d. absurd d) (λ f out is. bad order run name alike tells blocks a x graph_known rows_known f is) on
+  on_file : (b : Answer) (Then : Graph → Type 0) → AfterFile contents blocks name b Then → ((g : Graph) → IfSome (contents name) (λ bytes. graph_of blocks bytes ≡ Ok g) → Then g → Comes order run name alike contents blocks a x b.fault) → Comes order run name alike contents blocks a x b.fault
+  on_file b Then h on = by_file contents b (Comes order run name alike contents blocks a x) blocks name Then h (λ out is d. absurd d) (λ f out is. bad order run name alike contents blocks a x graph_known rows_known f is) on
 
 -- no files decide how a run ends that has begun
-undecided_run : (o : Option Fault) (workers : ℕ) (clock : ClockChoice) (log : Bool) (name : List ℕ) (tells : Contents) (blocks : List Named) → has_run o ≡ true → IsDecided o (over (Run workers clock log) name) tells blocks → ⊥
-undecided_run None workers clock log name tells blocks is d = d
-undecided_run (Some fault.Write) workers clock log name tells blocks is d = d
-undecided_run (Some (fault.Long (Some platform))) workers clock log name tells blocks is d = d
-undecided_run (Some (fault.LateMessage platform actor tag reading limit)) workers clock log name tells blocks is d = d
-undecided_run (Some f) workers clock log name tells blocks is d = not_true is
+undecided_run : (o : Option Fault) (workers : ℕ) (clock : ClockChoice) (log : Bool) (name : List ℕ) (contents : Contents) (blocks : List Named) → has_run o ≡ true → IsDecided o (over (Run workers clock log) name) contents blocks → ⊥
+undecided_run None workers clock log name contents blocks is d = d
+undecided_run (Some fault.Write) workers clock log name contents blocks is d = d
+undecided_run (Some (fault.Long (Some platform))) workers clock log name contents blocks is d = d
+undecided_run (Some (fault.LateMessage platform actor tag reading limit)) workers clock log name contents blocks is d = d
+undecided_run (Some f) workers clock log name contents blocks is d = not_true is
 
-undecided_replay : (o : Option Fault) (name air : List ℕ) (workers : ℕ) (log : Bool) (tells : Contents) (blocks : List Named) → has_replayed o ≡ true → IsDecided o (replay name air workers log) tells blocks → ⊥
-undecided_replay None name air workers log tells blocks is d = d
-undecided_replay (Some fault.Write) name air workers log tells blocks is d = d
-undecided_replay (Some (fault.Long (Some platform))) name air workers log tells blocks is d = d
-undecided_replay (Some (fault.LateAir platform actor tag reading limit row)) name air workers log tells blocks is d = d
-undecided_replay (Some f) name air workers log tells blocks is d = not_true is
+undecided_replay : (o : Option Fault) (name air : List ℕ) (workers : ℕ) (log : Bool) (contents : Contents) (blocks : List Named) → has_replayed o ≡ true → IsDecided o (replay name air workers log) contents blocks → ⊥
+undecided_replay None name air workers log contents blocks is d = d
+undecided_replay (Some fault.Write) name air workers log contents blocks is d = d
+undecided_replay (Some (fault.Long (Some platform))) name air workers log contents blocks is d = d
+undecided_replay (Some (fault.LateAir platform actor tag reading limit row)) name air workers log contents blocks is d = d
+undecided_replay (Some f) name air workers log contents blocks is d = not_true is
 
-module _ (tells : Contents) (blocks : List Named) (a b : Answer) where
+module _ (contents : Contents) (blocks : List Named) (a b : Answer) where
   -- a run
-  runs : (workers : ℕ) (clock : ClockChoice) (log : Bool) (name : List ℕ) → ComesByCause a.fault (Some (over (Run workers clock log) name)) tells blocks → IsDueTo (over (Run workers clock log) name) tells blocks b →
-      IsDecided b.fault (over (Run workers clock log) name) tells blocks → IsCutShort a.fault ⊎ IsAlike b.fault a.fault
+  runs : (workers : ℕ) (clock : ClockChoice) (log : Bool) (name : List ℕ) → ComesByCause a.fault (Some (over (Run workers clock log) name)) contents blocks → IsDueTo (over (Run workers clock log) name) contents blocks b →
+      IsDecided b.fault (over (Run workers clock log) name) contents blocks → IsCutShort a.fault ⊎ IsAlike b.fault a.fault
   runs workers clock log name x due =
-      on_file (over (Run workers clock log) name) workers clock log name refl tells blocks a x (λ k. k) (λ k. k) b (λ g. IsDueFor (Run workers clock log) tells g (name ∷ []) b) due
-      (λ g file rest. admitted (over (Run workers clock log) name) workers clock log name refl tells blocks a x (λ k. k) (λ k. k) b g file (HasRunBy workers clock log b) rest
-      (λ plan rows same is are pass ran d. absurd (undecided_run b.fault workers clock log name tells blocks ran.ran d)))
+      on_file (over (Run workers clock log) name) workers clock log name refl contents blocks a x (λ k. k) (λ k. k) b (λ g. IsDueFor (Run workers clock log) contents g (name ∷ []) b) due
+      (λ g file rest. admitted (over (Run workers clock log) name) workers clock log name refl contents blocks a x (λ k. k) (λ k. k) b g file (HasRunBy workers clock log b) rest
+      (λ plan rows same is are pass ran d. absurd (undecided_run b.fault workers clock log name contents blocks ran.ran d)))
 
   -- an audit
-  audits : (name log : List ℕ) → ComesByCause a.fault (Some (audit name log)) tells blocks → IsDueTo (audit name log) tells blocks b → IsDecided b.fault (audit name log) tells blocks → IsCutShort a.fault ⊎ IsAlike b.fault a.fault
+  audits : (name log : List ℕ) → ComesByCause a.fault (Some (audit name log)) contents blocks → IsDueTo (audit name log) contents blocks b → IsDecided b.fault (audit name log) contents blocks → IsCutShort a.fault ⊎ IsAlike b.fault a.fault
   audits name log x due =
-      on_file (audit name log) 1 Paced false name refl tells blocks a x (λ k. k) (λ k. k) b (λ g. IsAudited log tells g (name ∷ []) b) due
-      (λ g file rest. admitted (audit name log) 1 Paced false name refl tells blocks a x (λ k. k) (λ k. k) b g file (IsJudgedBy log tells g (name ∷ []) b) rest
-      (λ plan rows same is are pass k. judged plan rows (subst (λ z. IfSome (tells name) (λ bytes. graph_of blocks bytes ≡ Ok z)) (sym same) file) is are pass g k))
+      on_file (audit name log) 1 Paced false name refl contents blocks a x (λ k. k) (λ k. k) b (λ g. IsAudited log contents g (name ∷ []) b) due
+      (λ g file rest. admitted (audit name log) 1 Paced false name refl contents blocks a x (λ k. k) (λ k. k) b g file (IsJudgedBy log contents g (name ∷ []) b) rest
+      (λ plan rows same is are pass k. judged plan rows (subst (λ z. IfSome (contents name) (λ bytes. graph_of blocks bytes ≡ Ok z)) (sym same) file) is are pass g k))
     where
-      judged : (plan : Parts) (rows : ℕ → List Row) → IfSome (tells name) (λ bytes. graph_of blocks bytes ≡ Ok plan.graph) → IsAdmitted plan → AreRows tells plan.graph rows → AllPass Refused plan.graph rows → (g : Graph) → IsJudgedBy log tells g (name ∷ []) b plan (of_run plan.graph rows) →
-          IsDecided b.fault (audit name log) tells blocks → IsCutShort a.fault ⊎ IsAlike b.fault a.fault
+      judged : (plan : Parts) (rows : ℕ → List Row) → IfSome (contents name) (λ bytes. graph_of blocks bytes ≡ Ok plan.graph) → IsAdmitted plan → AreRows contents plan.graph rows → AllPass Refused plan.graph rows → (g : Graph) → IsJudgedBy log contents g (name ∷ []) b plan (of_run plan.graph rows) →
+          IsDecided b.fault (audit name log) contents blocks → IsCutShort a.fault ⊎ IsAlike b.fault a.fault
       judged plan rows file is are pass g k = by_last k
         where
-          can : (all : TellsAll tells blocks name) (last : IsKnown tells log) → CanAudit (Some (audit name log)) tells blocks plan (of_run plan.graph rows) last.0
+          can : (all : TellsAll contents blocks name) (last : IsKnown contents log) → CanAudit (Some (audit name log)) contents blocks plan (of_run plan.graph rows) last.0
           can all last = record {
             name = name;
             log = log;
@@ -166,46 +166,46 @@ module _ (tells : Contents) (blocks : List Named) (a b : Answer) where
             admitted = is;
             begins = record {
               bytes = all.bytes;
-              told = all.told;
-              graph = of_bytes (tells name) all.bytes (λ bytes. graph_of blocks bytes ≡ Ok plan.graph) all.told file;
+              reported = all.reported;
+              graph = of_bytes (contents name) all.bytes (λ bytes. graph_of blocks bytes ≡ Ok plan.graph) all.reported file;
               no_free_cycle = is.no_free_cycle;
               feasible = is.feasible;
-              files = all.files plan.graph (of_bytes (tells name) all.bytes (λ bytes. graph_of blocks bytes ≡ Ok plan.graph) all.told file);
+              files = all.files plan.graph (of_bytes (contents name) all.bytes (λ bytes. graph_of blocks bytes ≡ Ok plan.graph) all.reported file);
               rows = rows;
               sensors = are;
               in_time = pass;
             };
             over = refl;
-            told = last.1;
+            reported = last.1;
           }
 
-          by_last : IsJudgedBy log tells g (name ∷ []) b plan (of_run plan.graph rows) → IsDecided b.fault (audit name log) tells blocks → IsCutShort a.fault ⊎ IsAlike b.fault a.fault
-          by_last (inl h) d = absurd (subst (λ z. IsDecided z (audit name log) tells blocks) h.0.0 d)
+          by_last : IsJudgedBy log contents g (name ∷ []) b plan (of_run plan.graph rows) → IsDecided b.fault (audit name log) contents blocks → IsCutShort a.fault ⊎ IsAlike b.fault a.fault
+          by_last (inl h) d = absurd (subst (λ z. IsDecided z (audit name log) contents blocks) h.0.0 d)
           by_last (inr (inl (v, out, unlawful))) d =
-              let known = subst (λ z. IsDecided z (audit name log) tells blocks) out.0 d in
+              let known = subst (λ z. IsDecided z (audit name log) contents blocks) out.0 d in
               subst (λ z. IsCutShort a.fault ⊎ IsAlike z a.fault) (sym out.0)
               (⊎_elim (λ (h : a.fault ≡ Some (fault.Unlawful v)). inr h) (λ (wants : WantsLog a.fault). inl (short_log a.fault wants))
-              (x.verdict plan (of_run plan.graph rows) known.1.0 v (can known.0 known.1) (of_bytes (tells log) known.1.0 (λ bytes. IsUnlawful plan (of_run plan.graph rows) bytes v) known.1.1 unlawful).refuses))
+              (x.verdict plan (of_run plan.graph rows) known.1.0 v (can known.0 known.1) (of_bytes (contents log) known.1.0 (λ bytes. IsUnlawful plan (of_run plan.graph rows) bytes v) known.1.1 unlawful).refuses))
           by_last (inr (inr (accepts, puts))) d =
-              by_puts tells b (λ z. IsDecided z (audit name log) tells blocks → IsCutShort a.fault ⊎ IsAlike z a.fault) (λ text. text ≡ lawful_line) puts.1
+              by_puts contents b (λ z. IsDecided z (audit name log) contents blocks → IsCutShort a.fault ⊎ IsAlike z a.fault) (λ text. text ≡ lawful_line) puts.1
               (λ text eq all known.
               ⊎_elim (λ (h : (a.fault ≡ None) ⊎ (a.fault ≡ Some fault.Write)). inr h) (λ (wants : WantsLog a.fault). inl (short_log a.fault wants))
-              (x.lawful plan (of_run plan.graph rows) known.1.0 (can known.0 known.1) (of_bytes (tells log) known.1.0 (Accepts plan (of_run plan.graph rows)) known.1.1 accepts).lawful))
+              (x.lawful plan (of_run plan.graph rows) known.1.0 (can known.0 known.1) (of_bytes (contents log) known.1.0 (Accepts plan (of_run plan.graph rows)) known.1.1 accepts).lawful))
               (λ rose text eq part known. absurd known) d
 
   -- a replay
-  replays : (name air : List ℕ) (workers : ℕ) (log : Bool) → ComesByCause a.fault (Some (replay name air workers log)) tells blocks → IsDueTo (replay name air workers log) tells blocks b → IsDecided b.fault (replay name air workers log) tells blocks → IsCutShort a.fault ⊎ IsAlike b.fault a.fault
+  replays : (name air : List ℕ) (workers : ℕ) (log : Bool) → ComesByCause a.fault (Some (replay name air workers log)) contents blocks → IsDueTo (replay name air workers log) contents blocks b → IsDecided b.fault (replay name air workers log) contents blocks → IsCutShort a.fault ⊎ IsAlike b.fault a.fault
   replays name air workers log x due =
-      on_file (replay name air workers log) 1 Paced false name refl tells blocks a x (λ k. k) (λ k. k) b (λ g. IsReplayed air log tells g (name ∷ []) b) due
-      (λ g file rest. admitted (replay name air workers log) 1 Paced false name refl tells blocks a x (λ k. k) (λ k. k) b g file (IsReplayedBy air log tells g (name ∷ []) b) rest
-      (λ plan rows same is are pass k. by_last g file rows (subst (λ z. AreRows tells z rows × AllPass Refused z rows) same (are, pass)) (subst NoFreeCycle same is.no_free_cycle) (subst IsFeasible same is.feasible) plan (of_run plan.graph rows) k))
+      on_file (replay name air workers log) 1 Paced false name refl contents blocks a x (λ k. k) (λ k. k) b (λ g. IsReplayed air log contents g (name ∷ []) b) due
+      (λ g file rest. admitted (replay name air workers log) 1 Paced false name refl contents blocks a x (λ k. k) (λ k. k) b g file (IsReplayedBy air log contents g (name ∷ []) b) rest
+      (λ plan rows same is are pass k. by_last g file rows (subst (λ z. AreRows contents z rows × AllPass Refused z rows) same (are, pass)) (subst NoFreeCycle same is.no_free_cycle) (subst IsFeasible same is.feasible) plan (of_run plan.graph rows) k))
     where
-      by_last : (g : Graph) → IfSome (tells name) (λ bytes. graph_of blocks bytes ≡ Ok g) → (rows : ℕ → List Row) → AreRows tells g rows × AllPass Refused g rows → NoFreeCycle g → IsFeasible g → (plan : Parts) (others : ℕ → List Row) → IsReplayedBy air log tells g (name ∷ []) b plan others →
-          IsDecided b.fault (replay name air workers log) tells blocks → IsCutShort a.fault ⊎ IsAlike b.fault a.fault
-      by_last g file rows are free feasible plan others (inl h) d = absurd (subst (λ z. IsDecided z (replay name air workers log) tells blocks) h.0.0 d)
+      by_last : (g : Graph) → IfSome (contents name) (λ bytes. graph_of blocks bytes ≡ Ok g) → (rows : ℕ → List Row) → AreRows contents g rows × AllPass Refused g rows → NoFreeCycle g → IsFeasible g → (plan : Parts) (others : ℕ → List Row) → IsReplayedBy air log contents g (name ∷ []) b plan others →
+          IsDecided b.fault (replay name air workers log) contents blocks → IsCutShort a.fault ⊎ IsAlike b.fault a.fault
+      by_last g file rows are free feasible plan others (inl h) d = absurd (subst (λ z. IsDecided z (replay name air workers log) contents blocks) h.0.0 d)
       by_last g file rows are free feasible plan others (inr (inl (f, out, wrong))) d =
-          let known = subst (λ z. IsDecided z (replay name air workers log) tells blocks) out.0 d in
-          let defined = of_bytes (tells name) known.0.bytes (λ bytes. graph_of blocks bytes ≡ Ok g) known.0.told file in
+          let known = subst (λ z. IsDecided z (replay name air workers log) contents blocks) out.0 d in
+          let defined = of_bytes (contents name) known.0.bytes (λ bytes. graph_of blocks bytes ≡ Ok g) known.0.reported file in
           subst (λ z. IsCutShort a.fault ⊎ IsAlike z a.fault) (sym out.0)
           (⊎_elim (λ (h : a.fault ≡ Some (fault.Air f)). inr h) (λ (wants : WantsAir a.fault). inl (short_air a.fault wants))
           (x.air g known.1.0 f (record {
@@ -214,134 +214,134 @@ module _ (tells : Contents) (blocks : List Named) (a b : Answer) where
             workers = workers;
             log = log;
             words = refl;
-            begins = record { bytes = known.0.bytes; told = known.0.told; graph = defined; no_free_cycle = free; feasible = feasible; files = known.0.files g defined; rows = rows; sensors = are.0; in_time = are.1 };
-            told = known.1.1;
-          }) (of_bytes (tells air) known.1.0 (λ bytes. air_of g bytes ≡ Err f) known.1.1 wrong)))
-      by_last g file rows are free feasible plan others (inr (inr ran)) d = absurd (undecided_replay b.fault name air workers log tells blocks ran.ran d)
+            begins = record { bytes = known.0.bytes; reported = known.0.reported; graph = defined; no_free_cycle = free; feasible = feasible; files = known.0.files g defined; rows = rows; sensors = are.0; in_time = are.1 };
+            reported = known.1.1;
+          }) (of_bytes (contents air) known.1.0 (λ bytes. air_of g bytes ≡ Err f) known.1.1 wrong)))
+      by_last g file rows are free feasible plan others (inr (inr ran)) d = absurd (undecided_replay b.fault name air workers log contents blocks ran.ran d)
 
   -- the graph that the other one is due to
-  same_graph : (name : List ℕ) → IsKnown tells name → (g h : Graph) → IfSome (tells name) (λ bytes. graph_of blocks bytes ≡ Ok g) → IfSome (tells name) (λ bytes. graph_of blocks bytes ≡ Ok h) → h ≡ g
-  same_graph name (bytes, told) g h file other =
-      same_ok {E = GraphFault} h g (sym (of_bytes (tells name) bytes (λ bytes. graph_of blocks bytes ≡ Ok h) told other) ∙ of_bytes (tells name) bytes (λ bytes. graph_of blocks bytes ≡ Ok g) told file)
+  same_graph : (name : List ℕ) → IsKnown contents name → (g h : Graph) → IfSome (contents name) (λ bytes. graph_of blocks bytes ≡ Ok g) → IfSome (contents name) (λ bytes. graph_of blocks bytes ≡ Ok h) → h ≡ g
+  same_graph name (bytes, reported) g h file other =
+      same_ok {E = GraphFault} h g (sym (of_bytes (contents name) bytes (λ bytes. graph_of blocks bytes ≡ Ok h) reported other) ∙ of_bytes (contents name) bytes (λ bytes. graph_of blocks bytes ≡ Ok g) reported file)
 
-  no_fault : (name : List ℕ) → IsKnown tells name → (g : Graph) (f : GraphFault) → IfSome (tells name) (λ bytes. graph_of blocks bytes ≡ Ok g) → IfSome (tells name) (λ bytes. graph_of blocks bytes ≡ Err f) → ⊥
-  no_fault name (bytes, told) g f file other = ok_err g f (sym (of_bytes (tells name) bytes (λ bytes. graph_of blocks bytes ≡ Ok g) told file) ∙ of_bytes (tells name) bytes (λ bytes. graph_of blocks bytes ≡ Err f) told other)
+  no_fault : (name : List ℕ) → IsKnown contents name → (g : Graph) (f : GraphFault) → IfSome (contents name) (λ bytes. graph_of blocks bytes ≡ Ok g) → IfSome (contents name) (λ bytes. graph_of blocks bytes ≡ Err f) → ⊥
+  no_fault name (bytes, reported) g f file other = ok_err g f (sym (of_bytes (contents name) bytes (λ bytes. graph_of blocks bytes ≡ Ok g) reported file) ∙ of_bytes (contents name) bytes (λ bytes. graph_of blocks bytes ≡ Err f) reported other)
 
   -- all is written, or a write fails
   abbrev Writes : Option Fault → Type 0
   Writes o = IsCutShort o ⊎ IsAlike None o
 
   written : (Text : List ℕ → Type 0) → OnlyPuts a Text → Writes a.fault
-  written Text h = by_puts tells a Writes Text h.1 (λ text is all. inr (inl refl)) (λ rose text is part. inr (inr refl))
+  written Text h = by_puts contents a Writes Text h.1 (λ text is all. inr (inl refl)) (λ rose text is part. inr (inr refl))
 
-  in_memory : (order : Order) → UnlessMemory a (IsDueTo order tells blocks) → (IsDueTo order tells blocks a → Writes a.fault) → Writes a.fault
-  in_memory order (inl out) on = with_fault tells a Writes fault.Memory out (inl tt)
+  in_memory : (order : Order) → UnlessMemory a (IsDueTo order contents blocks) → (IsDueTo order contents blocks a → Writes a.fault) → Writes a.fault
+  in_memory order (inl out) on = with_fault contents a Writes fault.Memory out (inl tt)
   in_memory order (inr h) on = on h
 
   -- a command whose text is due to this graph writes it
-  writes : (name : List ℕ) (known : IsKnown tells name) (g : Graph) → IfSome (tells name) (λ bytes. graph_of blocks bytes ≡ Ok g) → (Then : Graph → Type 0) → AfterFile tells blocks name a Then → (Then g → Writes a.fault) → Writes a.fault
+  writes : (name : List ℕ) (known : IsKnown contents name) (g : Graph) → IfSome (contents name) (λ bytes. graph_of blocks bytes ≡ Ok g) → (Then : Graph → Type 0) → AfterFile contents blocks name a Then → (Then g → Writes a.fault) → Writes a.fault
   writes name known g file Then h on =
-      by_file tells a Writes blocks name Then h (λ out is. inl tt) (λ f out is. absurd (no_fault name known g f file is)) (λ other there rest. on (subst Then (same_graph name known g other file there) rest))
+      by_file contents a Writes blocks name Then h (λ out is. inl tt) (λ f out is. absurd (no_fault name known g f file is)) (λ other there rest. on (subst Then (same_graph name known g other file there) rest))
 
   uncycled : (g : Graph) → NoFreeCycle g → (Then : Type 0) → AfterCycles g a Then → (Then → Writes a.fault) → Writes a.fault
-  uncycled g free Then h on = by_cycles tells a Writes g Then h (λ actors out is. absurd (free is.first is.edge is.path is.cycle is.free)) (λ free rest. on rest)
+  uncycled g free Then h on = by_cycles contents a Writes g Then h (λ actors out is. absurd (free is.first is.edge is.path is.cycle is.free)) (λ free rest. on rest)
 
-  module _ (name : List ℕ) (g : Graph) (file : IfSome (tells name) (λ bytes. graph_of blocks bytes ≡ Ok g)) (free : NoFreeCycle g) where
+  module _ (name : List ℕ) (g : Graph) (file : IfSome (contents name) (λ bytes. graph_of blocks bytes ≡ Ok g)) (free : NoFreeCycle g) where
     -- `check`
-    checked : UnlessMemory a (IsDueTo (over Check name) tells blocks) → IsFeasible g → IsKnown tells name → Writes a.fault
+    checked : UnlessMemory a (IsDueTo (over Check name) contents blocks) → IsFeasible g → IsKnown contents name → Writes a.fault
     checked due feasible known =
-        in_memory (over Check name) due (λ h. writes name known g file (λ z. IsDueFor Check tells z (name ∷ []) a) h (λ k. uncycled g free (AfterOffsets g a (OnlyPuts a (IsChecked g))) k
-        (λ rest. by_offsets tells a Writes g (OnlyPuts a (IsChecked g)) rest (λ send offset slack out is. absurd (too_late g send slack offset feasible is)) (λ judged puts. written (IsChecked g) puts))))
+        in_memory (over Check name) due (λ h. writes name known g file (λ z. IsDueFor Check contents z (name ∷ []) a) h (λ k. uncycled g free (AfterOffsets g a (OnlyPuts a (IsChecked g))) k
+        (λ rest. by_offsets contents a Writes g (OnlyPuts a (IsChecked g)) rest (λ send offset slack out is. absurd (too_late g send slack offset feasible is)) (λ judged puts. written (IsChecked g) puts))))
 
     -- `meaning`
-    meant : UnlessMemory a (IsDueTo (over Meaning name) tells blocks) → (rows : ℕ → List Row) → AreRows tells g rows → (text : List ℕ) → IsTables g rows (FitOnAll g) text → TellsAll tells blocks name → Writes a.fault
+    meant : UnlessMemory a (IsDueTo (over Meaning name) contents blocks) → (rows : ℕ → List Row) → AreRows contents g rows → (text : List ℕ) → IsTables g rows (FitOnAll g) text → TellsAll contents blocks name → Writes a.fault
     meant due rows are text tables all =
-        in_memory (over Meaning name) due (λ h. writes name (all.bytes, all.told) g file (λ z. IsDueFor Meaning tells z (name ∷ []) a) h (λ k. uncycled g free (AfterRows Taken tells g (name ∷ []) a (λ rows. IsMeantBy g rows a)) k
-        (λ files. by_rows tells a Writes Taken g (name ∷ []) (λ rows. IsMeantBy g rows a) files (λ actor out is. inl tt) (λ actor f out is. absurd (fails_rows tells g told Taken actor f (rows actor) is (are actor)))
+        in_memory (over Meaning name) due (λ h. writes name (all.bytes, all.reported) g file (λ z. IsDueFor Meaning contents z (name ∷ []) a) h (λ k. uncycled g free (AfterRows Taken contents g (name ∷ []) a (λ rows. IsMeantBy g rows a)) k
+        (λ files. by_rows contents a Writes Taken g (name ∷ []) (λ rows. IsMeantBy g rows a) files (λ actor out is. inl tt) (λ actor f out is. absurd (fails_rows contents g reported Taken actor f (rows actor) is (are actor)))
         (λ actor row seen limit out is late. absurd (taken is)) (λ others there pass k. last others there k))))
       where
-        told : TellsSensors tells g
-        told = all.files g (of_bytes (tells name) all.bytes (λ bytes. graph_of blocks bytes ≡ Ok g) all.told file)
+        reported : ReportsSensors contents g
+        reported = all.files g (of_bytes (contents name) all.bytes (λ bytes. graph_of blocks bytes ≡ Ok g) all.reported file)
 
         taken : Taken ≡ Refused → ⊥
         taken e = cc
 
-        last : (others : ℕ → List Row) → AreRows tells g others → IsMeantBy g others a → Writes a.fault
-        last others there (inl k) = absurd (meant_long tells g text others told there (record { rows = rows; sensors = are; tables = tables }) k.1)
+        last : (others : ℕ → List Row) → AreRows contents g others → IsMeantBy g others a → Writes a.fault
+        last others there (inl k) = absurd (meant_long contents g text others reported there (record { rows = rows; sensors = are; tables = tables }) k.1)
         last others there (inr k) = written (IsTables g others (FitOnAll g)) k
 
     -- `slacks`
-    slacked : UnlessMemory a (IsDueTo (over Slacks name) tells blocks) → (text : List ℕ) → IsSlacked g text → IsKnown tells name → AreBlocks blocks → Writes a.fault
+    slacked : UnlessMemory a (IsDueTo (over Slacks name) contents blocks) → (text : List ℕ) → IsSlacked g text → IsKnown contents name → AreBlocks blocks → Writes a.fault
     slacked due text is known blocked =
-        in_memory (over Slacks name) due (λ h. writes name known g file (λ z. IsDueFor Slacks tells z (name ∷ []) a) h (λ k. uncycled g free (IsSlackedBy g a) k last))
+        in_memory (over Slacks name) due (λ h. writes name known g file (λ z. IsDueFor Slacks contents z (name ∷ []) a) h (λ k. uncycled g free (IsSlackedBy g a) k last))
       where
         last : IsSlackedBy g a → Writes a.fault
-        last (inl k) = absurd (rings_admit_nothing g k.0 k.1 is.slack (lawful_of blocks known.0 g blocked (of_bytes (tells name) known.0 (λ bytes. graph_of blocks bytes ≡ Ok g) known.1 file)) k.3 is.least.admits)
+        last (inl k) = absurd (rings_admit_nothing g k.0 k.1 is.slack (lawful_of blocks known.0 g blocked (of_bytes (contents name) known.0 (λ bytes. graph_of blocks bytes ≡ Ok g) known.1 file)) k.3 is.least.admits)
         last (inr k) = written (IsSlacked g) k
 
   -- a command that puts a text, in its order of stages: `Comes` of each of its refusals, and of its text
-  texts : (c : Command) (name : List ℕ) → ComesByCause a.fault (Some (over c name)) tells blocks → UnlessMemory a (IsDueTo (over c name) tells blocks) → IsDueTo (over c name) tells blocks b → IsDecided b.fault (over c name) tells blocks → IsCutShort a.fault ⊎ IsAlike b.fault a.fault
+  texts : (c : Command) (name : List ℕ) → ComesByCause a.fault (Some (over c name)) contents blocks → UnlessMemory a (IsDueTo (over c name) contents blocks) → IsDueTo (over c name) contents blocks b → IsDecided b.fault (over c name) contents blocks → IsCutShort a.fault ⊎ IsAlike b.fault a.fault
   texts (Run workers clock log) name x mine due = runs workers clock log name x due
   texts Check name x mine due =
-      by_file tells b (Comes (over Check name) Check name refl tells blocks a x) blocks name (λ g. IsDueFor Check tells g (name ∷ []) b) due (λ out is d. absurd d) (λ f out is. bad (over Check name) Check name refl tells blocks a x (λ k. k) (λ k. k) f is)
+      by_file contents b (Comes (over Check name) Check name refl contents blocks a x) blocks name (λ g. IsDueFor Check contents g (name ∷ []) b) due (λ out is d. absurd d) (λ f out is. bad (over Check name) Check name refl contents blocks a x (λ k. k) (λ k. k) f is)
       (λ g file rest.
-      by_cycles tells b (Comes (over Check name) Check name refl tells blocks a x) g (AfterOffsets g b (OnlyPuts b (IsChecked g))) rest (λ actors out is. cyclic (over Check name) Check name refl tells blocks a x (λ k. k) (λ k. k) g file actors is)
+      by_cycles contents b (Comes (over Check name) Check name refl contents blocks a x) g (AfterOffsets g b (OnlyPuts b (IsChecked g))) rest (λ actors out is. cyclic (over Check name) Check name refl contents blocks a x (λ k. k) (λ k. k) g file actors is)
       (λ free rest.
-      by_offsets tells b (Comes (over Check name) Check name refl tells blocks a x) g (OnlyPuts b (IsChecked g)) rest (λ send offset slack out is. slow (over Check name) Check name refl tells blocks a x (λ k. k) (λ k. k) g file tt free send offset slack is)
-      (λ feasible puts. by_puts tells b (Comes (over Check name) Check name refl tells blocks a x) (IsChecked g) puts.1 (λ text is all d. checked name g file free mine feasible d) (λ rose text is part d. absurd d))))
+      by_offsets contents b (Comes (over Check name) Check name refl contents blocks a x) g (OnlyPuts b (IsChecked g)) rest (λ send offset slack out is. slow (over Check name) Check name refl contents blocks a x (λ k. k) (λ k. k) g file tt free send offset slack is)
+      (λ feasible puts. by_puts contents b (Comes (over Check name) Check name refl contents blocks a x) (IsChecked g) puts.1 (λ text is all d. checked name g file free mine feasible d) (λ rose text is part d. absurd d))))
   texts Meaning name x mine due =
-      by_file tells b (Comes (over Meaning name) Meaning name refl tells blocks a x) blocks name (λ g. IsDueFor Meaning tells g (name ∷ []) b) due (λ out is d. absurd d) (λ f out is. bad (over Meaning name) Meaning name refl tells blocks a x (λ k. k) (λ k. k) f is)
+      by_file contents b (Comes (over Meaning name) Meaning name refl contents blocks a x) blocks name (λ g. IsDueFor Meaning contents g (name ∷ []) b) due (λ out is d. absurd d) (λ f out is. bad (over Meaning name) Meaning name refl contents blocks a x (λ k. k) (λ k. k) f is)
       (λ g file rest.
-      by_cycles tells b (Comes (over Meaning name) Meaning name refl tells blocks a x) g (AfterRows Taken tells g (name ∷ []) b (λ rows. IsMeantBy g rows b)) rest (λ actors out is. cyclic (over Meaning name) Meaning name refl tells blocks a x (λ k. k) (λ k. k) g file actors is)
+      by_cycles contents b (Comes (over Meaning name) Meaning name refl contents blocks a x) g (AfterRows Taken contents g (name ∷ []) b (λ rows. IsMeantBy g rows b)) rest (λ actors out is. cyclic (over Meaning name) Meaning name refl contents blocks a x (λ k. k) (λ k. k) g file actors is)
       (λ free files.
-      by_rows tells b (Comes (over Meaning name) Meaning name refl tells blocks a x) Taken g (name ∷ []) (λ rows. IsMeantBy g rows b) files (λ actor out is d. absurd d)
-      (λ actor f out is. fails (over Meaning name) Meaning name refl tells blocks a x (λ k. k) (λ k. k) g file free (λ e. absurd e) actor f is) (λ actor row seen limit out is late. absurd (taken is)) (λ rows are pass k. last g file free rows are k)))
+      by_rows contents b (Comes (over Meaning name) Meaning name refl contents blocks a x) Taken g (name ∷ []) (λ rows. IsMeantBy g rows b) files (λ actor out is d. absurd d)
+      (λ actor f out is. fails (over Meaning name) Meaning name refl contents blocks a x (λ k. k) (λ k. k) g file free (λ e. absurd e) actor f is) (λ actor row seen limit out is late. absurd (taken is)) (λ rows are pass k. last g file free rows are k)))
     where
       taken : Taken ≡ Refused → ⊥
       taken e = cc
 
-      last : (g : Graph) → IfSome (tells name) (λ bytes. graph_of blocks bytes ≡ Ok g) → NoFreeCycle g → (rows : ℕ → List Row) → AreRows tells g rows → IsMeantBy g rows b → IsDecided b.fault (over Meaning name) tells blocks → IsCutShort a.fault ⊎ IsAlike b.fault a.fault
+      last : (g : Graph) → IfSome (contents name) (λ bytes. graph_of blocks bytes ≡ Ok g) → NoFreeCycle g → (rows : ℕ → List Row) → AreRows contents g rows → IsMeantBy g rows b → IsDecided b.fault (over Meaning name) contents blocks → IsCutShort a.fault ⊎ IsAlike b.fault a.fault
       last g file free rows are (inl k) d =
           subst (λ z. IsCutShort a.fault ⊎ IsAlike z a.fault) (sym k.0.0)
           (⊎_elim (λ (h : a.fault ≡ Some (fault.Long None)). inr h) (λ (wants : WantsRows a.fault). inl (short_rows a.fault wants))
-          (x.long_meaning g rows (reads (over Meaning name) Meaning name refl tells blocks a x (λ k. k) (λ k. k) g file free (λ e. absurd e) (subst (λ z. IsDecided z (over Meaning name) tells blocks) k.0.0 d)) are k.1))
-      last g file free rows are (inr k) d = by_puts tells b (Comes (over Meaning name) Meaning name refl tells blocks a x) (IsTables g rows (FitOnAll g)) k.1 (λ text is all d. meant name g file free mine rows are text is d) (λ rose text is part d. absurd d) d
+          (x.long_meaning g rows (reads (over Meaning name) Meaning name refl contents blocks a x (λ k. k) (λ k. k) g file free (λ e. absurd e) (subst (λ z. IsDecided z (over Meaning name) contents blocks) k.0.0 d)) are k.1))
+      last g file free rows are (inr k) d = by_puts contents b (Comes (over Meaning name) Meaning name refl contents blocks a x) (IsTables g rows (FitOnAll g)) k.1 (λ text is all d. meant name g file free mine rows are text is d) (λ rose text is part d. absurd d) d
   texts Slacks name x mine due =
-      by_file tells b (Comes (over Slacks name) Slacks name refl tells blocks a x) blocks name (λ g. IsDueFor Slacks tells g (name ∷ []) b) due (λ out is d. absurd d) (λ f out is. bad (over Slacks name) Slacks name refl tells blocks a x (λ k. k) (λ k. k) f is)
-      (λ g file rest. by_cycles tells b (Comes (over Slacks name) Slacks name refl tells blocks a x) g (IsSlackedBy g b) rest (λ actors out is. cyclic (over Slacks name) Slacks name refl tells blocks a x (λ k. k) (λ k. k) g file actors is) (λ free k. last g file free k))
+      by_file contents b (Comes (over Slacks name) Slacks name refl contents blocks a x) blocks name (λ g. IsDueFor Slacks contents g (name ∷ []) b) due (λ out is d. absurd d) (λ f out is. bad (over Slacks name) Slacks name refl contents blocks a x (λ k. k) (λ k. k) f is)
+      (λ g file rest. by_cycles contents b (Comes (over Slacks name) Slacks name refl contents blocks a x) g (IsSlackedBy g b) rest (λ actors out is. cyclic (over Slacks name) Slacks name refl contents blocks a x (λ k. k) (λ k. k) g file actors is) (λ free k. last g file free k))
     where
-      last : (g : Graph) → IfSome (tells name) (λ bytes. graph_of blocks bytes ≡ Ok g) → NoFreeCycle g → IsSlackedBy g b → IsDecided b.fault (over Slacks name) tells blocks → IsCutShort a.fault ⊎ IsAlike b.fault a.fault
+      last : (g : Graph) → IfSome (contents name) (λ bytes. graph_of blocks bytes ≡ Ok g) → NoFreeCycle g → IsSlackedBy g b → IsDecided b.fault (over Slacks name) contents blocks → IsCutShort a.fault ⊎ IsAlike b.fault a.fault
       last g file free (inl k) d =
-          let known = subst (λ z. IsDecided z (over Slacks name) tells blocks) k.2.0 d in
-          let defined = of_bytes (tells name) known.0.0 (λ bytes. graph_of blocks bytes ≡ Ok g) known.0.1 file in
+          let known = subst (λ z. IsDecided z (over Slacks name) contents blocks) k.2.0 d in
+          let defined = of_bytes (contents name) known.0.0 (λ bytes. graph_of blocks bytes ≡ Ok g) known.0.1 file in
           subst (λ z. IsCutShort a.fault ⊎ IsAlike z a.fault) (sym k.2.0)
           (⊎_elim (λ (h : (sends : List ℕ) × (gain : ℕ) × IsRing g sends gain × (a.fault ≡ Some (fault.Ring sends gain))). inr (h.0, h.1, h.3)) (λ (wants : WantsGraph a.fault). inl (short_graph a.fault wants))
-          (x.ring g (record { name = name; words = refl; bytes = known.0.0; told = known.0.1; defines = defined }) free (λ slack admits. rings_admit_nothing g k.0 k.1 slack (lawful_of blocks known.0.0 g known.1 defined) k.3 admits)))
-      last g file free (inr k) d = by_puts tells b (Comes (over Slacks name) Slacks name refl tells blocks a x) (IsSlacked g) k.1 (λ text is all d. slacked name g file free mine text is d.0 d.1) (λ rose text is part d. absurd d) d
+          (x.ring g (record { name = name; words = refl; bytes = known.0.0; reported = known.0.1; defines = defined }) free (λ slack admits. rings_admit_nothing g k.0 k.1 slack (lawful_of blocks known.0.0 g known.1 defined) k.3 admits)))
+      last g file free (inr k) d = by_puts contents b (Comes (over Slacks name) Slacks name refl contents blocks a x) (IsSlacked g) k.1 (λ text is all d. slacked name g file free mine text is d.0 d.1) (λ rose text is part d. absurd d) d
 
   -- `migrate`
-  migrates : (name : List ℕ) → ComesByCause a.fault (Some (migrate name)) tells blocks → IsDueTo (migrate name) tells blocks b → IsDecided b.fault (migrate name) tells blocks → IsCutShort a.fault ⊎ IsAlike b.fault a.fault
+  migrates : (name : List ℕ) → ComesByCause a.fault (Some (migrate name)) contents blocks → IsDueTo (migrate name) contents blocks b → IsDecided b.fault (migrate name) contents blocks → IsCutShort a.fault ⊎ IsAlike b.fault a.fault
   migrates name x due =
-      by_file tells b (λ y. IsDecided y (migrate name) tells blocks → IsCutShort a.fault ⊎ IsAlike y a.fault) blocks name (λ g. OnlyPuts b (IsMigrated g blocks)) due (λ out is d. absurd d)
+      by_file contents b (λ y. IsDecided y (migrate name) contents blocks → IsCutShort a.fault ⊎ IsAlike y a.fault) blocks name (λ g. OnlyPuts b (IsMigrated g blocks)) due (λ out is d. absurd d)
       (λ f out is d.
       ⊎_elim (λ (h : a.fault ≡ Some (fault.Graph f)). inr h) (λ (wants : WantsGraph a.fault). inl (short_graph a.fault wants))
-      (x.unmigrated f (record { name = name; words = refl; bytes = d.0; told = d.1; defines = of_bytes (tells name) d.0 (λ bytes. graph_of blocks bytes ≡ Err f) d.1 is })))
-      (λ g file puts. by_puts tells b (λ y. IsDecided y (migrate name) tells blocks → IsCutShort a.fault ⊎ IsAlike y a.fault) (IsMigrated g blocks) puts.1
+      (x.unmigrated f (record { name = name; words = refl; bytes = d.0; reported = d.1; defines = of_bytes (contents name) d.0 (λ bytes. graph_of blocks bytes ≡ Err f) d.1 is })))
+      (λ g file puts. by_puts contents b (λ y. IsDecided y (migrate name) contents blocks → IsCutShort a.fault ⊎ IsAlike y a.fault) (IsMigrated g blocks) puts.1
       (λ text is all d.
       ⊎_elim (λ (h : (a.fault ≡ None) ⊎ (a.fault ≡ Some fault.Write)). inr h) (λ (wants : WantsGraph a.fault). inl (short_graph a.fault wants))
-      (x.migrated g (record { name = name; words = refl; bytes = d.0; told = d.1; defines = of_bytes (tells name) d.0 (λ bytes. graph_of blocks bytes ≡ Ok g) d.1 file }))) (λ rose text is part d. absurd d))
+      (x.migrated g (record { name = name; words = refl; bytes = d.0; reported = d.1; defines = of_bytes (contents name) d.0 (λ bytes. graph_of blocks bytes ≡ Ok g) d.1 file }))) (λ rose text is part d. absurd d))
 
-  by_order : (order : Order) → ComesByCause a.fault (Some order) tells blocks → UnlessMemory a (IsDueTo order tells blocks) → IsDueTo order tells blocks b → IsDecided b.fault order tells blocks → IsCutShort a.fault ⊎ IsAlike b.fault a.fault
+  by_order : (order : Order) → ComesByCause a.fault (Some order) contents blocks → UnlessMemory a (IsDueTo order contents blocks) → IsDueTo order contents blocks b → IsDecided b.fault order contents blocks → IsCutShort a.fault ⊎ IsAlike b.fault a.fault
   by_order (over c name) x mine due = texts c name x mine due
-  by_order (make number workers) x mine due = by_puts tells b (λ y. IsDecided y (make number workers) tells blocks → IsCutShort a.fault ⊎ IsAlike y a.fault) (IsMadeRun number b.left.platforms) due.1 (λ text is all d. absurd d) (λ rose text is part d. absurd d)
+  by_order (make number workers) x mine due = by_puts contents b (λ y. IsDecided y (make number workers) contents blocks → IsCutShort a.fault ⊎ IsAlike y a.fault) (IsMadeRun number b.left.platforms) due.1 (λ text is all d. absurd d) (λ rose text is part d. absurd d)
   by_order (migrate name) x mine due = migrates name x due
   by_order (audit name log) x mine due = audits name log x due
   by_order (replay name air workers log) x mine due = replays name air workers log x due
 
-  one_due : (order : Order) → ComesByCause a.fault (Some order) tells blocks → IsDue (Some order) tells blocks a → IsDue (Some order) tells blocks b → IsDecided b.fault order tells blocks → IsCutShort a.fault ⊎ IsAlike b.fault a.fault
-  one_due order x mine (inl out) d = absurd (subst (λ z. IsDecided z order tells blocks) out.0 d)
+  one_due : (order : Order) → ComesByCause a.fault (Some order) contents blocks → IsDue (Some order) contents blocks a → IsDue (Some order) contents blocks b → IsDecided b.fault order contents blocks → IsCutShort a.fault ⊎ IsAlike b.fault a.fault
+  one_due order x mine (inl out) d = absurd (subst (λ z. IsDecided z order contents blocks) out.0 d)
   one_due order x mine (inr h) d = by_order order x mine h d
 
-pub exactly : (order : Option Order) (tells : Contents) (blocks : List Named) (a : Answer) → ComesByCause a.fault order tells blocks → IsDue order tells blocks a → IsExact a.fault order tells blocks
-exactly None tells blocks a x mine = tt
-exactly (Some order) tells blocks a x mine = λ due is d. one_due tells blocks a due order x mine is d
+pub exactly : (order : Option Order) (contents : Contents) (blocks : List Named) (a : Answer) → ComesByCause a.fault order contents blocks → IsDue order contents blocks a → IsExact a.fault order contents blocks
+exactly None contents blocks a x mine = tt
+exactly (Some order) contents blocks a x mine = λ due is d. one_due contents blocks a due order x mine is d

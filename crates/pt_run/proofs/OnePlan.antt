@@ -9,7 +9,7 @@ use Rattle.pt_semantics.specs.Tables.{tables_text}
 use Rattle.pt_semantics.proofs.Acyclic.{levels_are_one, ranks_are_one}
 use Rattle.pt_causality.specs.Ranked.{level_of, rank_of}
 use Rattle.pt_offsets.specs.Plans.{IsAdmitted, Parts}
-use Rattle.pt_hints.specs.Lines.{Block}
+use Rattle.pt_audit.specs.Parsing.Lines.{Block}
 use Rattle.pt_audit.specs.LawfulLogs.{IsLawfulLog}
 use Rattle.pt_audit.specs.Verdicts.{AllAreFinished, HasLog, IsFirstUnfinished, IsFirstUnlinked, IsHead, IsVerdict, IsVerdictOn, StopsAt, AllBlocksSay}
 use Rattle.pt_audit.specs.declared.verdict.Verdict.{Verdict}

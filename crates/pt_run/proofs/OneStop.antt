@@ -22,7 +22,7 @@ use Rattle.pt_turn.specs.All.{histories_of}
 use Rattle.pt_turn.specs.Platforms.{PlatformView, state_at}
 use Rattle.pt_turn.specs.Running.{Shows, ShowsLate, last_reading}
 use Rattle.pt_turn.specs.Turned.{is_late}
-use Rattle.pt_alone.specs.HasGone.{LastVisitEnds}
+use Rattle.pt_fixed_order.specs.Outcome.{LastVisitEnds}
 use Rattle.pt_run.specs.Runs.{IsKept}
 
 -- a message is of one tag

@@ -7,7 +7,8 @@ use Rattle.pt_offsets.specs.Plans.{IsAdmitted, Parts}
 use Rattle.pt_sensors.specs.declared.recorded_fault.RecordedFault.{RecordedFault}
 use Rattle.pt_sensors.specs.declared.recorded_fault.LateRows.TheVariants.{Refused}
 use Rattle.pt_sensors.specs.declared.sensor_rows.SensorRows.{SensorRows}
-use Rattle.pt_sensors.specs.Asked.{Asks, Contents, ReadFails, Reading}
+use Rattle.pt_sensors.specs.Asked.{Asks, ReadFails}
+use Rattle.pt_io.specs.Calls.{Contents, Reading}
 use Rattle.pt_sensors.specs.Listed.{rows_for}
 use Rattle.pt_sensors.specs.Places.{of_run}
 use Rattle.pt_sensors.specs.Recorded.{AllPass, AreRows, CauseOfRows}
@@ -19,28 +20,28 @@ use Rattle.pt_run.specs.Faults.{fault_of_rows}
 use Rattle.pt_run.specs.LastFiles.{HasAllRows}
 use Rattle.pt_run.proofs.Ending.{rows_due}
 
-module _ (tells : Contents) (p : Parts) (g : Graph) (Then : Answer → Parts → (ℕ → List Row) → Type 0) (admitted : IsAdmitted p) (same : g ≡ p.graph) where
+module _ (contents : Contents) (p : Parts) (g : Graph) (Then : Answer → Parts → (ℕ → List Row) → Type 0) (admitted : IsAdmitted p) (same : g ≡ p.graph) where
   -- what is due after the rows
   abbrev Planned : Answer → (ℕ → List Row) → Type 0
   Planned a rows = WithPlan p.graph (λ plan. Then a plan (of_run p.graph rows))
 
-  on_graph : (a : Answer) → UnlessMemory a (λ a. AfterRows Refused tells p.graph [] a (Planned a)) → UnlessMemory a (λ a. AfterAdmission tells p.graph [] a (Then a))
+  on_graph : (a : Answer) → UnlessMemory a (λ a. AfterRows Refused contents p.graph [] a (Planned a)) → UnlessMemory a (λ a. AfterAdmission contents p.graph [] a (Then a))
   on_graph a (inl out) = inl out
   on_graph a (inr k) = inr (inr (admitted.no_free_cycle, inr (admitted.feasible, k)))
 
   -- its sensors have no rows
-  pub no_rows : (f : RecordedFault) (r : Reading) → CauseOfRows Refused f tells g [] r → RefusesAsDue (fault_of_rows f) r (λ a. AfterAdmission tells p.graph [] a (Then a))
-  no_rows f r cause a is out = on_graph a (rows_due (λ (text : List ℕ). text) Refused f tells p.graph r Planned (subst (λ (z : Graph). CauseOfRows Refused f tells z [] r) same cause) a is out)
+  pub no_rows : (f : RecordedFault) (r : Reading) → CauseOfRows Refused f contents g [] r → RefusesAsDue (fault_of_rows f) r (λ a. AfterAdmission contents p.graph [] a (Then a))
+  no_rows f r cause a is out = on_graph a (rows_due (λ (text : List ℕ). text) Refused f contents p.graph r Planned (subst (λ (z : Graph). CauseOfRows Refused f contents z [] r) same cause) a is out)
 
   -- its sensors have these rows, and the call goes on
-  pub past_rows : (rows : ℕ → List Row) → AreRows tells g rows → AllPass Refused g rows → (a : Answer) → UnlessMemory a (λ a. Then a p (of_run p.graph rows)) → UnlessMemory a (λ a. AfterAdmission tells p.graph [] a (Then a))
+  pub past_rows : (rows : ℕ → List Row) → AreRows contents g rows → AllPass Refused g rows → (a : Answer) → UnlessMemory a (λ a. Then a p (of_run p.graph rows)) → UnlessMemory a (λ a. AfterAdmission contents p.graph [] a (Then a))
   past_rows rows are pass a (inl out) = inl out
-  past_rows rows are pass a (inr k) = on_graph a (inr (inr (inr (inr (rows, subst (λ (z : Graph). AreRows tells z rows) same are, subst (λ (z : Graph). AllPass Refused z rows) same pass, (p, refl, admitted, k))))))
+  past_rows rows are pass a (inr k) = on_graph a (inr (inr (inr (inr (rows, subst (λ (z : Graph). AreRows contents z rows) same are, subst (λ (z : Graph). AllPass Refused z rows) same pass, (p, refl, admitted, k))))))
 
 -- all of its sensors have rows, and the call goes on
-pub past_all_rows : (tells : Contents) (p : Parts) (entries : List SensorRows) (Then : Answer → Parts → (ℕ → List Row) → Type 0) → HasAllRows tells p entries → (a : Answer) →
-    UnlessMemory a (λ a. Then a p (of_run p.graph (rows_for entries))) → UnlessMemory a (λ a. AfterAdmission tells p.graph [] a (Then a))
-past_all_rows tells p entries Then has a due = past_rows tells p p.graph Then has.admitted refl (rows_for entries) has.sensors has.in_time a due
+pub past_all_rows : (contents : Contents) (p : Parts) (entries : List SensorRows) (Then : Answer → Parts → (ℕ → List Row) → Type 0) → HasAllRows contents p entries → (a : Answer) →
+    UnlessMemory a (λ a. Then a p (of_run p.graph (rows_for entries))) → UnlessMemory a (λ a. AfterAdmission contents p.graph [] a (Then a))
+past_all_rows contents p entries Then has a due = past_rows contents p p.graph Then has.admitted refl (rows_for entries) has.sensors has.in_time a due
 
 -- a last file could not be read after the files of the sensors
 pub last_unread : (file : List ℕ) (p : Parts) (g : Graph) (first asked now : Option (List (List ℕ))) (start before last : ℕ) → g ≡ p.graph → Asks first asked (all_sensors g) → start ≤ before → Asks asked now (file ∷ []) → Rose before last →

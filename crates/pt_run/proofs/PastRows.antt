@@ -3,30 +3,29 @@ use Rattle.std.proofs.Common.{ℕ, Bool, List, Option, Some, None}
 use Rattle.pt_types.specs.declared.rows.Row.{Row}
 use Rattle.pt_blocks.specs.declared.blocks.Named.{Named}
 use Rattle.pt_offsets.specs.Plans.{Parts}
-use Rattle.pt_sensors.specs.Asked.{Contents, Reading}
+use Rattle.pt_io.specs.Calls.{Contents, Reading, Writing}
 use Rattle.pt_run.specs.declared.fault.Fault.{Fault}
 use Rattle.pt_run.specs.declared.fault.Fault.TheVariants as fault
-use Rattle.pt_run.specs.Causes.{Writing}
 use Rattle.pt_run.specs.Leaving.{RunWith}
-use Rattle.pt_run.specs.Telling.{paced_run}
+use Rattle.pt_run.specs.Reporting.{paced_run}
 use Rattle.pt_run.specs.Written.{Leaves}
 use Rattle.pt_run.proofs.ByFault.{EndsAudit, EndsBy, EndsReplay}
 use Rattle.pt_run.proofs.Stages.{not_true}
 
 -- the graph file defines an admitted graph, and its sensors' files have rows, none of which is late
 abbrev pub HasRows : Contents → List Named → List ℕ → Type 0
-HasRows tells blocks name = RunWith tells blocks name (λ plan rows. Unit {0})
+HasRows contents blocks name = RunWith contents blocks name (λ plan rows. Unit {0})
 
-pub data PastRows (left : Leaves) (name : List ℕ) (tells : Contents) (blocks : List Named) (r : Reading) (w : Writing) (outcome : Option Fault) : Type 0 where
-  past_rows : HasRows tells blocks name → PastRows left name tells blocks r w outcome
-  as_run : EndsBy outcome left (Some (paced_run, name)) tells blocks r w → PastRows left name tells blocks r w outcome
+pub data PastRows (left : Leaves) (name : List ℕ) (contents : Contents) (blocks : List Named) (r : Reading) (w : Writing) (outcome : Option Fault) : Type 0 where
+  past_rows : HasRows contents blocks name → PastRows left name contents blocks r w outcome
+  as_run : EndsBy outcome left (Some (paced_run, name)) contents blocks r w → PastRows left name contents blocks r w outcome
 
-module _ (left : Leaves) (name : List ℕ) (tells : Contents) (blocks : List Named) (r : Reading) (w : Writing) where
-  rows_of : (Fact : Parts → (ℕ → List Row) → Type 0) → RunWith tells blocks name Fact → HasRows tells blocks name
-  rows_of Fact h = record { plan = h.plan; file = h.file; over = record { admitted = h.over.admitted; rows = h.over.rows; sensors = h.over.sensors; in_time = h.over.in_time; went = tt } }
+module _ (left : Leaves) (name : List ℕ) (contents : Contents) (blocks : List Named) (r : Reading) (w : Writing) where
+  rows_of : (Fact : Parts → (ℕ → List Row) → Type 0) → RunWith contents blocks name Fact → HasRows contents blocks name
+  rows_of Fact h = record { plan = h.plan; file = h.file; over = record { admitted = h.over.admitted; rows = h.over.rows; sensors = h.over.sensors; in_time = h.over.in_time; fact = tt } }
 
   module _ (log : List ℕ) where
-    pub audit_past : (o : Option Fault) → EndsAudit o left name log tells blocks r w → PastRows left name tells blocks r w o
+    pub audit_past : (o : Option Fault) → EndsAudit o left name log contents blocks r w → PastRows left name contents blocks r w o
     audit_past None k = past_rows (rows_of _ k.1)
     audit_past (Some fault.Write) k = past_rows (rows_of _ k.1)
     audit_past (Some (fault.Unlawful v)) k = past_rows (rows_of _ k.1)
@@ -47,7 +46,7 @@ module _ (left : Leaves) (name : List ℕ) (tells : Contents) (blocks : List Nam
     audit_past (Some fault.ReadAir) k = absurd (not_true k.0)
 
   module _ (air : List ℕ) (log : Bool) where
-    pub replay_past : (o : Option Fault) → EndsReplay o left name air log tells blocks r w → PastRows left name tells blocks r w o
+    pub replay_past : (o : Option Fault) → EndsReplay o left name air log contents blocks r w → PastRows left name contents blocks r w o
     replay_past None k = past_rows (rows_of _ k)
     replay_past (Some fault.Write) k = past_rows (rows_of _ k.1)
     replay_past (Some (fault.Long (Some platform))) k = past_rows (rows_of _ k)

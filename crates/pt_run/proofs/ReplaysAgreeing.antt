@@ -18,8 +18,8 @@ use Rattle.pt_semantics.specs.Visits.{Made}
 use Rattle.pt_semantics.proofs.Acyclic.{levels_are_one, ranks_are_one}
 use Rattle.pt_semantics.proofs.Lookups.{none_some, same_some}
 use Rattle.pt_laws.proofs.Unique.{meaning_is_one}
-use Rattle.pt_together.specs.Asked.{EndsAt}
-use Rattle.pt_together.proofs.Listed.{member}
+use Rattle.pt_engine.specs.Asked.{EndsAt}
+use Rattle.pt_engine.proofs.Listed.{member}
 use Rattle.pt_causality.specs.Ranked.{level_of, rank_of}
 use Rattle.pt_offsets.specs.Plans.{Parts}
 use Rattle.pt_turn.specs.declared.fault.TurnFault.{TurnFault}
@@ -27,18 +27,17 @@ use Rattle.pt_turn.specs.All.{histories_of}
 use Rattle.pt_turn.specs.Platforms.{PlatformView}
 use Rattle.pt_monitors.specs.Misses.{missed_of}
 use Rattle.pt_tables.specs.Platforms.{histories}
-use Rattle.pt_sensors.specs.Asked.{Contents, Reading}
+use Rattle.pt_io.specs.Calls.{Contents, Reading, Writing}
 use Rattle.pt_sensors.specs.Places.{of_run}
-use Rattle.pt_air.specs.declared.air.Air.{Air}
+use Rattle.pt_types.specs.declared.air.Air.{Air}
 use Rattle.pt_air.specs.declared.fault.AirFault.{AirFault}
 use Rattle.pt_air.specs.AirOf.{air_of}
-use Rattle.pt_skies.specs.Flights.{IsWholeReplay}
-use Rattle.pt_skies.specs.Sky.{Sky}
-use Rattle.pt_skies.proofs.OneReplay.{replays_are_one}
-use Rattle.pt_aired.specs.HaveFlown.{HaveFlown, IsAfterReplay}
+use Rattle.pt_replay_laws.specs.ReplayRounds.{IsWholeReplay}
+use Rattle.pt_replay_laws.specs.ReplayState.{ReplayState}
+use Rattle.pt_replay_laws.proofs.OneReplay.{replays_are_one}
+use Rattle.pt_replay.specs.Outcome.{IsOutcome as IsReplayOutcome, IsAfterReplay}
 use Rattle.pt_run.specs.declared.fault.Fault.{Fault}
 use Rattle.pt_run.specs.Agreeing.{TellsAll}
-use Rattle.pt_run.specs.Causes.{Writing}
 use Rattle.pt_run.specs.Leaving.{PutsMeaning, RunWith}
 use Rattle.pt_run.specs.Replaying.{LeavesReplay, OnAir, stop_of_replay}
 use Rattle.pt_run.specs.ReplaysAgreeing.{AreStoppedAlike, LeaveAlike, ReplayCallsAgree, ReplaysAgree, WritesTables}
@@ -53,10 +52,10 @@ use Rattle.pt_run.proofs.RunsAgreeing.{by_histories, same_list, same_log, same_r
 use Rattle.pt_run.proofs.StepsAgreeing.{none_past}
 
 -- a whole replay with these turns in its last round
-abbrev IsReplayOf : Graph → (ℕ → ℕ) → Air → (ℕ → List Row) → Sky → List Made → Type 0
+abbrev IsReplayOf : Graph → (ℕ → ℕ) → Air → (ℕ → List Row) → ReplayState → List Made → Type 0
 IsReplayOf g level air rows y made = (run : IsWholeReplay g level air rows y) × (run.made ≡ made)
 
-kept_of : (plan : Parts) (rows : ℕ → List Row) (air : Air) (platforms : List PlatformView) (fault : Option (ℕ × TurnFault)) → HaveFlown plan (level_of plan.ranks) rows air platforms fault → IsKept plan rows platforms fault
+kept_of : (plan : Parts) (rows : ℕ → List Row) (air : Air) (platforms : List PlatformView) (fault : Option (ℕ × TurnFault)) → IsReplayOutcome plan (level_of plan.ranks) rows air platforms fault → IsKept plan rows platforms fault
 kept_of plan rows air platforms fault h = record { all = h.all; legal = h.legal; matched = h.matched; linked = h.linked; ends = h.ends }
 
 -- two replays with the same last round: a platform without a fault after one has none after the other
@@ -66,18 +65,18 @@ fine_too plan other rows level levels air platforms others a b same i v w at the
     (b.faults i w there).1 (subst (λ made. (m : Made) → IsIn m made → m.platform ≡ i → m.fault ≡ false) same ((a.faults i v at).0 none))
 
 module _ (plan other : Parts) (rows : ℕ → List Row) (air : Air) (platforms others : List PlatformView) (fault stop : Option (ℕ × TurnFault)) (graphs : plan.graph ≡ other.graph)
-    (h : HaveFlown plan (level_of plan.ranks) rows air platforms fault) (k : HaveFlown other (level_of other.ranks) rows air others stop) where
+    (h : IsReplayOutcome plan (level_of plan.ranks) rows air platforms fault) (k : IsReplayOutcome other (level_of other.ranks) rows air others stop) where
   levels : level_of other.ranks ≡ level_of plan.ranks
   levels = levels_are_one plan.graph (level_of other.ranks) (level_of plan.ranks) (subst (λ (g : Graph). AreLevels g (level_of other.ranks)) (sym graphs) k.admitted.levels) h.admitted.levels
 
   -- the other replay is one of this graph
-  replayed : IsReplayOf plan.graph (level_of plan.ranks) air rows k.after.sky k.after.run.made
+  replayed : IsReplayOf plan.graph (level_of plan.ranks) air rows k.after.state k.after.run.made
   replayed =
-      subst (λ level. IsReplayOf plan.graph level air rows k.after.sky k.after.run.made) levels
-      (subst (λ g. IsReplayOf g (level_of other.ranks) air rows k.after.sky k.after.run.made) (sym graphs) (k.after.run, refl))
+      subst (λ level. IsReplayOf plan.graph level air rows k.after.state k.after.run.made) levels
+      (subst (λ g. IsReplayOf g (level_of other.ranks) air rows k.after.state k.after.run.made) (sym graphs) (k.after.run, refl))
 
-  one : (h.after.sky ≡ k.after.sky) × (h.after.run.made ≡ replayed.0.made)
-  one = replays_are_one plan.graph (level_of plan.ranks) air rows h.after.sky k.after.sky h.after.run replayed.0
+  one : (h.after.state ≡ k.after.state) × (h.after.run.made ≡ replayed.0.made)
+  one = replays_are_one plan.graph (level_of plan.ranks) air rows h.after.state k.after.state h.after.run replayed.0
 
   made : h.after.run.made ≡ k.after.run.made
   made = one.1 ∙ replayed.1
@@ -91,7 +90,7 @@ module _ (plan other : Parts) (rows : ℕ → List Row) (air : Air) (platforms o
       (λ (lt : i < length platforms).
       let v = member platforms i lt in
       let w = member others i (subst (λ n. i < n) (sym many) lt) in
-      turns_of platforms i v.0 v.1 ∙ h.after.kept_turns i v.0 v.1 ∙ ap (λ (y : Sky). kept (y.did i)) one.0 ∙ sym (k.after.kept_turns i w.0 w.1) ∙ sym (turns_of others i w.0 w.1))
+      turns_of platforms i v.0 v.1 ∙ h.after.kept_turns i v.0 v.1 ∙ ap (λ (y : ReplayState). kept (y.did i)) one.0 ∙ sym (k.after.kept_turns i w.0 w.1) ∙ sym (turns_of others i w.0 w.1))
       (λ (le : length platforms ≤ i). none_past platforms i le ∙ sym (none_past others i (subst (λ n. n ≤ i) (sym many) le)))
       (cases_lt i (length platforms))
 
@@ -143,43 +142,43 @@ replays_agree plan other rows air platforms others fault stop graphs h k = (
 )
 
 -- two calls that ran
-module _ (log logged : Bool) (tells : Contents) (blocks : List Named) (name air bytes : List ℕ) (o p : Option Fault) (left leaves : Leaves) (r q : Reading) (w v : Writing) (all : TellsAll tells blocks name) (told : tells air ≡ Some bytes)
-    (h : RunWith tells blocks name (OnAir tells air (LeavesReplay log o left w))) (k : RunWith tells blocks name (OnAir tells air (LeavesReplay logged p leaves v))) where
-  defines : (g : Graph) → IfSome (tells name) (λ bytes. graph_of blocks bytes ≡ Ok g) → graph_of blocks all.bytes ≡ Ok g
-  defines g file = of_bytes (tells name) all.bytes (λ bytes. graph_of blocks bytes ≡ Ok g) all.told file
+module _ (log logged : Bool) (contents : Contents) (blocks : List Named) (name air bytes : List ℕ) (o p : Option Fault) (left leaves : Leaves) (r q : Reading) (w v : Writing) (all : TellsAll contents blocks name) (reported : contents air ≡ Some bytes)
+    (h : RunWith contents blocks name (OnAir contents air (LeavesReplay log o left w))) (k : RunWith contents blocks name (OnAir contents air (LeavesReplay logged p leaves v))) where
+  defines : (g : Graph) → IfSome (contents name) (λ bytes. graph_of blocks bytes ≡ Ok g) → graph_of blocks all.bytes ≡ Ok g
+  defines g file = of_bytes (contents name) all.bytes (λ bytes. graph_of blocks bytes ≡ Ok g) all.reported file
 
   graphs : h.plan.graph ≡ k.plan.graph
   graphs = same_ok {E = GraphFault} h.plan.graph k.plan.graph (sym (defines h.plan.graph h.file) ∙ defines k.plan.graph k.file)
 
   rows : of_run k.plan.graph k.over.rows ≡ of_run h.plan.graph h.over.rows
-  rows = same_rows tells h.plan.graph k.plan.graph h.over.rows k.over.rows graphs (all.files h.plan.graph (defines h.plan.graph h.file)) h.over.sensors k.over.sensors
+  rows = same_rows contents h.plan.graph k.plan.graph h.over.rows k.over.rows graphs (all.files h.plan.graph (defines h.plan.graph h.file)) h.over.sensors k.over.sensors
 
-  says : (g : Graph) (recorded : Air) → IfSome (tells air) (λ bytes. air_of g bytes ≡ Ok recorded) → air_of g bytes ≡ Ok recorded
-  says g recorded file = of_bytes (tells air) bytes (λ bytes. air_of g bytes ≡ Ok recorded) told file
+  says : (g : Graph) (recorded : Air) → IfSome (contents air) (λ bytes. air_of g bytes ≡ Ok recorded) → air_of g bytes ≡ Ok recorded
+  says g recorded file = of_bytes (contents air) bytes (λ bytes. air_of g bytes ≡ Ok recorded) reported file
 
-  recorded : k.over.went.recorded ≡ h.over.went.recorded
-  recorded = same_ok {E = AirFault} k.over.went.recorded h.over.went.recorded
-      (sym (says k.plan.graph k.over.went.recorded k.over.went.file) ∙ ap (λ g. air_of g bytes) (sym graphs) ∙ says h.plan.graph h.over.went.recorded h.over.went.file)
+  recorded : k.over.fact.recorded ≡ h.over.fact.recorded
+  recorded = same_ok {E = AirFault} k.over.fact.recorded h.over.fact.recorded
+      (sym (says k.plan.graph k.over.fact.recorded k.over.fact.file) ∙ ap (λ g. air_of g bytes) (sym graphs) ∙ says h.plan.graph h.over.fact.recorded h.over.fact.file)
 
-  flown : HaveFlown k.plan (level_of k.plan.ranks) (of_run h.plan.graph h.over.rows) h.over.went.recorded leaves.platforms (stop_of_replay p)
-  flown =
-      subst (λ a. HaveFlown k.plan (level_of k.plan.ranks) (of_run h.plan.graph h.over.rows) a leaves.platforms (stop_of_replay p)) recorded
-      (subst (λ rs. HaveFlown k.plan (level_of k.plan.ranks) rs k.over.went.recorded leaves.platforms (stop_of_replay p)) rows k.over.went.fact.flown)
+  outcome : IsReplayOutcome k.plan (level_of k.plan.ranks) (of_run h.plan.graph h.over.rows) h.over.fact.recorded leaves.platforms (stop_of_replay p)
+  outcome =
+      subst (λ a. IsReplayOutcome k.plan (level_of k.plan.ranks) (of_run h.plan.graph h.over.rows) a leaves.platforms (stop_of_replay p)) recorded
+      (subst (λ rs. IsReplayOutcome k.plan (level_of k.plan.ranks) rs k.over.fact.recorded leaves.platforms (stop_of_replay p)) rows k.over.fact.fact.replayed)
 
   agree : ((i : ℕ) → histories_of left.platforms i ≡ histories_of leaves.platforms i) × AreStoppedAlike (stop_of_replay o) (stop_of_replay p)
-  agree = replays_agree h.plan k.plan (of_run h.plan.graph h.over.rows) h.over.went.recorded left.platforms leaves.platforms (stop_of_replay o) (stop_of_replay p) graphs h.over.went.fact.flown flown
+  agree = replays_agree h.plan k.plan (of_run h.plan.graph h.over.rows) h.over.fact.recorded left.platforms leaves.platforms (stop_of_replay o) (stop_of_replay p) graphs h.over.fact.fact.replayed outcome
 
   counts : length left.platforms ≡ length leaves.platforms
-  counts = h.over.went.fact.flown.all.count ∙ ap (λ (g : Graph). length g.platforms) graphs ∙ sym flown.all.count
+  counts = h.over.fact.fact.replayed.all.count ∙ ap (λ (g : Graph). length g.platforms) graphs ∙ sym outcome.all.count
 
   listed : histories left.platforms ≡ histories leaves.platforms
   listed = same_list left.platforms leaves.platforms counts agree.0
 
   missed : o ≡ None → p ≡ None → left.misses ≡ leaves.misses
   missed eo ep =
-      h.over.went.fact.misses eo ∙ by_histories h.plan.graph left.platforms (λ i x at. ap (λ (q : Parts). q.graph) (h.over.went.fact.flown.all.plans i x at))
+      h.over.fact.fact.misses eo ∙ by_histories h.plan.graph left.platforms (λ i x at. ap (λ (q : Parts). q.graph) (h.over.fact.fact.replayed.all.plans i x at))
       ∙ ap₂ (λ (g : Graph) turns. flat_map (missed_of g) turns) graphs listed
-      ∙ sym (by_histories k.plan.graph leaves.platforms (λ i x at. ap (λ (q : Parts). q.graph) (flown.all.plans i x at))) ∙ sym (k.over.went.fact.misses ep)
+      ∙ sym (by_histories k.plan.graph leaves.platforms (λ i x at. ap (λ (q : Parts). q.graph) (outcome.all.plans i x at))) ∙ sym (k.over.fact.fact.misses ep)
 
   -- what the other one put, of this graph and these rows
   module _ (a : PutsMeaning h.plan (of_run h.plan.graph h.over.rows) log left.platforms (Appends w.written_before w.written_now)) (b : PutsMeaning k.plan (of_run k.plan.graph k.over.rows) logged leaves.platforms (Appends v.written_before v.written_now)) where
@@ -204,15 +203,15 @@ module _ (log logged : Bool) (tells : Contents) (blocks : List Named) (name air 
     stop = agree.1;
     misses = missed;
     text = λ eo ep.
-        let a = h.over.went.fact.written eo in
-        let b = k.over.went.fact.written ep in
+        let a = h.over.fact.fact.written eo in
+        let b = k.over.fact.fact.written ep in
         (h.plan.graph, a.firings, a.text, written a b);
   }
 
 pub replay_calls_agree : ReplayCallsAgree
-replay_calls_agree workers others log logged tells blocks name air bytes a b all told ran too due more =
+replay_calls_agree workers others log logged contents blocks name air bytes a b all reported ran too due more =
     let order = replay name air workers log in
     let asked = replay name air others logged in
-    alike log logged tells blocks name air bytes a.fault b.fault a.left b.left a.read b.read a.wrote b.wrote all told
-    ((replay_headline (Some order) tells blocks a due workers log name air refl).run ran)
-    ((replay_headline (Some asked) tells blocks b more others logged name air refl).run too)
+    alike log logged contents blocks name air bytes a.fault b.fault a.left b.left a.read b.read a.wrote b.wrote all reported
+    ((replay_headline (Some order) contents blocks a due workers log name air refl).run ran)
+    ((replay_headline (Some asked) contents blocks b more others logged name air refl).run too)

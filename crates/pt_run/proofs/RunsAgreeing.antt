@@ -25,64 +25,41 @@ use Rattle.pt_monitors.specs.Misses.{missed_of}
 use Rattle.pt_monitors.specs.Platforms.{missed_by}
 use Rattle.pt_tables.specs.Log.{log_text}
 use Rattle.pt_tables.specs.Platforms.{histories}
-use Rattle.pt_rounds.specs.HaveRun.{HaveRun}
+use Rattle.pt_rounds.specs.Outcome.{IsOutcome as IsPacedOutcome}
 use Rattle.pt_rounds.proofs.Agreeing.{runs_agree as paced_runs_agree}
-use Rattle.pt_sensors.specs.Asked.{Contents}
+use Rattle.pt_io.specs.Calls.{Contents}
 use Rattle.pt_sensors.specs.Places.{of_run}
 use Rattle.pt_sensors.specs.Recorded.{AreRows, RowsOfKind}
-use Rattle.pt_run.specs.RunsAgreeing.{FinishedRunsAgree, RunsAgree, TellsSensors}
+use Rattle.pt_run.specs.RunsAgreeing.{FinishedRunsAgree, RunsAgree, ReportsSensors}
 use Rattle.pt_turn.specs.declared.fault.TurnFault.{TurnFault}
 use Rattle.pt_run.specs.Readings.{Clocking}
-use Rattle.pt_run.specs.Runs.{IsFinishedRun, RunsPaced, log_if}
+use Rattle.pt_run.specs.Runs.{IsFinishedRun, log_if}
 
--- a file that is told has one list of rows
+-- a file with known content has one list of rows
 same_ok : (rows more : List Row) → ◌≡◌ {A = Result (List Row) RowFault} (Ok rows) (Ok more) → rows ≡ more
 same_ok rows more e = cc
 
-file_rows : (told : Option (List ℕ)) (bytes : List ℕ) (rows more : List Row) → told ≡ Some bytes → IfSome told (λ bytes. rows_of bytes ≡ Ok rows) → IfSome told (λ bytes. rows_of bytes ≡ Ok more) → rows ≡ more
+file_rows : (reported : Option (List ℕ)) (bytes : List ℕ) (rows more : List Row) → reported ≡ Some bytes → IfSome reported (λ bytes. rows_of bytes ≡ Ok rows) → IfSome reported (λ bytes. rows_of bytes ≡ Ok more) → rows ≡ more
 file_rows None bytes rows more e h k = absurd (none_some bytes e)
 file_rows (Some b) bytes rows more e h k = same_ok rows more (sym h ∙ k)
 
-kind_rows : (tells : Contents) (kind : Kind) (rows more : List Row) → ((file : List ℕ) (bound : ℕ) → kind ≡ Sensor file bound → (bytes : List ℕ) × (tells file ≡ Some bytes)) → RowsOfKind tells kind rows → RowsOfKind tells kind more → rows ≡ more
-kind_rows tells (Sensor file bound) rows more told h k = let f = told file bound refl in file_rows (tells file) f.0 rows more f.1 h k
-kind_rows tells kind rows more told h k = h ∙ sym k
+kind_rows : (contents : Contents) (kind : Kind) (rows more : List Row) → ((file : List ℕ) (bound : ℕ) → kind ≡ Sensor file bound → (bytes : List ℕ) × (contents file ≡ Some bytes)) → RowsOfKind contents kind rows → RowsOfKind contents kind more → rows ≡ more
+kind_rows contents (Sensor file bound) rows more reported h k = let f = reported file bound refl in file_rows (contents file) f.0 rows more f.1 h k
+kind_rows contents kind rows more reported h k = h ∙ sym k
 
--- sensors whose files are told have one list of rows each
-pub rows_are_one : (tells : Contents) (g : Graph) (rows more : ℕ → List Row) → TellsSensors tells g → AreRows tells g rows → AreRows tells g more → rows ≡ more
-rows_are_one tells g rows more told h k = fun_ext (λ a. kind_rows tells (kind_of g a) (rows a) (more a) (told a) (h a) (k a))
+-- sensors whose files have known contents have one list of rows each
+pub rows_are_one : (contents : Contents) (g : Graph) (rows more : ℕ → List Row) → ReportsSensors contents g → AreRows contents g rows → AreRows contents g more → rows ≡ more
+rows_are_one contents g rows more reported h k = fun_ext (λ a. kind_rows contents (kind_of g a) (rows a) (more a) (reported a) (h a) (k a))
 
 -- the rows of the other run
-pub same_rows : (tells : Contents) (g other : Graph) (rows more : ℕ → List Row) → g ≡ other → TellsSensors tells g → AreRows tells g rows → AreRows tells other more → of_run other more ≡ of_run g rows
-same_rows tells g other rows more same told h k =
-    ap₂ of_run (sym same) (sym (rows_are_one tells g rows more told h (subst (λ z. AreRows tells z more) (sym same) k)))
-
--- the platform that stopped a paced run
-abbrev stop_in : Option (ℕ × TurnFault) → Option ℕ
-stop_in None = None
-stop_in (Some f) = Some f.0
-
-have_run : (plan : Parts) (rows : ℕ → List Row) (platforms : List PlatformView) (fault : Option (ℕ × TurnFault)) → RunsPaced plan rows platforms fault → HaveRun plan (level_of plan.ranks) rows platforms (stop_in fault)
-have_run plan rows platforms None run = run
-have_run plan rows platforms (Some f) run = run.1
-
--- its fault is that it needed more claims than it may make
-same_stop : (plan other : Parts) (rows more : ℕ → List Row) (platforms others : List PlatformView) (fault stop : Option (ℕ × TurnFault)) → RunsPaced plan rows platforms fault → RunsPaced other more others stop → stop_in fault ≡ stop_in stop → fault ≡ stop
-same_stop plan other rows more platforms others None None h k e = refl
-same_stop plan other rows more platforms others None (Some g) h k e = absurd (none_some g.0 e)
-same_stop plan other rows more platforms others (Some f) None h k e = absurd (none_some f.0 (sym e))
-same_stop plan other rows more platforms others (Some (i, f)) (Some (j, g)) (h, run) (k, run2) e =
-    let fault : f ≡ g = h ∙ sym k in
-    let number : i ≡ j = same_some i j e in
-    λ x. Some (number x, fault x)
+pub same_rows : (contents : Contents) (g other : Graph) (rows more : ℕ → List Row) → g ≡ other → ReportsSensors contents g → AreRows contents g rows → AreRows contents other more → of_run other more ≡ of_run g rows
+same_rows contents g other rows more same reported h k =
+    ap₂ of_run (sym same) (sym (rows_are_one contents g rows more reported h (subst (λ z. AreRows contents z more) (sym same) k)))
 
 pub runs_agree : RunsAgree
-runs_agree tells c d plan other platforms others fault stop one two same told h k =
-    let run : HaveRun plan (level_of plan.ranks) (of_run plan.graph h.rows) platforms (stop_in fault) = have_run plan (of_run plan.graph h.rows) platforms fault (h.went.paced one) in
-    let run2 : HaveRun other (level_of other.ranks) (of_run other.graph k.rows) others (stop_in stop) = have_run other (of_run other.graph k.rows) others stop (k.went.paced two) in
-    let agree =
-    paced_runs_agree plan other (of_run plan.graph h.rows) platforms others (stop_in fault) (stop_in stop) same run
-    (subst (λ rows. HaveRun other (level_of other.ranks) rows others (stop_in stop)) (same_rows tells plan.graph other.graph h.rows k.rows same told h.sensors k.sensors) run2) in
-    (agree.0, same_stop plan other (of_run plan.graph h.rows) (of_run other.graph k.rows) platforms others fault stop (h.went.paced one) (k.went.paced two) agree.1)
+runs_agree contents c d plan other platforms others fault stop one two same reported h k =
+    paced_runs_agree plan other (of_run plan.graph h.rows) platforms others fault stop same (h.fact.paced one)
+    (subst (λ rows. IsPacedOutcome other (level_of other.ranks) rows others stop) (same_rows contents plan.graph other.graph h.rows k.rows same reported h.sensors k.sensors) (k.fact.paced two))
 
 -- the histories one by one are the list of them
 pub same_list : (ps os : List PlatformView) → length ps ≡ length os → ((i : ℕ) → histories_of ps i ≡ histories_of os i) → histories ps ≡ histories os
@@ -95,7 +72,7 @@ same_list (v ∷ ps) (w ∷ os) e h =
     let rest : histories ps ≡ histories os = same_list ps os (omega (arith, e)) later in
     λ i. first i ∷ rest i
 
--- what platforms of one graph missed is told by their histories
+-- the histories of platforms of one graph determine what they missed
 pub by_histories : (g : Graph) (ps : List PlatformView) → ((i : ℕ) (v : PlatformView) → slice_get ps i ≡ Some v → v.plan.graph ≡ g) → flat_map missed_by ps ≡ flat_map (missed_of g) (histories ps)
 by_histories g [] are = refl
 by_histories g (v ∷ ps) are = ap₂ (λ a b. a ++ b) (ap (λ z. missed_of z v.turns) (are 0 v refl)) (by_histories g ps (λ i w at. are (suc i) w at))
@@ -105,11 +82,11 @@ same_log true g ps os same = ap (log_text g) same
 same_log false g ps os same = refl
 
 -- what a finished run shows of its graph
-record Shows (tells : Contents) (g : Graph) (log : Bool) (platforms : List PlatformView) (misses : List Miss) (text : List ℕ) : Type 0 where
+record Shows (contents : Contents) (g : Graph) (log : Bool) (platforms : List PlatformView) (misses : List Miss) (text : List ℕ) : Type 0 where
   rank : ℕ → ℕ
   ranks : AreRanks g rank
   rows : ℕ → List Row
-  sensors : AreRows tells g rows
+  sensors : AreRows contents g rows
   firings : List ActorFiring
   meaning : IsMeaning g rank (of_run g rows) firings
   written : text ≡ tables_text g firings ++ log_if log g platforms
@@ -117,8 +94,8 @@ record Shows (tells : Contents) (g : Graph) (log : Bool) (platforms : List Platf
   graphs : (i : ℕ) (v : PlatformView) → slice_get platforms i ≡ Some v → v.plan.graph ≡ g
   count : length platforms ≡ length g.platforms
 
-shows : (tells : Contents) (c : Clocking) (plan : Parts) (log : Bool) (platforms : List PlatformView) (misses : List Miss) (text : List ℕ) → IsFinishedRun tells c plan log platforms misses text → Shows tells plan.graph log platforms misses text
-shows tells c plan log platforms misses text h = record {
+shows : (contents : Contents) (c : Clocking) (plan : Parts) (log : Bool) (platforms : List PlatformView) (misses : List Miss) (text : List ℕ) → IsFinishedRun contents c plan log platforms misses text → Shows contents plan.graph log platforms misses text
+shows contents c plan log platforms misses text h = record {
   rank = rank_of plan.ranks;
   ranks = h.run.admitted.ranks;
   rows = h.run.rows;
@@ -127,12 +104,12 @@ shows tells c plan log platforms misses text h = record {
   meaning = h.meaning;
   written = h.written;
   missed = h.missed;
-  graphs = λ i v at. ap (λ (p : Parts). p.graph) (h.run.went.kept.all.plans i v at);
-  count = h.run.went.kept.all.count;
+  graphs = λ i v at. ap (λ (p : Parts). p.graph) (h.run.fact.kept.all.plans i v at);
+  count = h.run.fact.kept.all.count;
 }
 
-module _ (tells : Contents) (g : Graph) (log : Bool) (platforms others : List PlatformView) (misses missed : List Miss) (text written : List ℕ) (told : TellsSensors tells g) (same : (i : ℕ) → histories_of platforms i ≡ histories_of others i)
-    (h : Shows tells g log platforms misses text) (k : Shows tells g log others missed written) where
+module _ (contents : Contents) (g : Graph) (log : Bool) (platforms others : List PlatformView) (misses missed : List Miss) (text written : List ℕ) (reported : ReportsSensors contents g) (same : (i : ℕ) → histories_of platforms i ≡ histories_of others i)
+    (h : Shows contents g log platforms misses text) (k : Shows contents g log others missed written) where
   listed : histories platforms ≡ histories others
   listed = same_list platforms others (h.count ∙ sym k.count) same
 
@@ -140,7 +117,7 @@ module _ (tells : Contents) (g : Graph) (log : Bool) (platforms others : List Pl
   firings =
       meaning_is_one g h.rank (of_run g h.rows) h.firings k.firings h.meaning
       (subst (λ rank. IsMeaning g rank (of_run g h.rows) k.firings) (ranks_are_one g k.rank h.rank k.ranks h.ranks)
-      (subst (λ rows. IsMeaning g k.rank (of_run g rows) k.firings) (rows_are_one tells g k.rows h.rows told k.sensors h.sensors) k.meaning))
+      (subst (λ rows. IsMeaning g k.rank (of_run g rows) k.firings) (rows_are_one contents g k.rows h.rows reported k.sensors h.sensors) k.meaning))
 
   texts : text ≡ written
   texts = h.written ∙ ap₂ (λ a b. a ++ b) (ap (tables_text g) firings) (same_log log g platforms others listed) ∙ sym k.written
@@ -152,13 +129,13 @@ module _ (tells : Contents) (g : Graph) (log : Bool) (platforms others : List Pl
   both = (texts, all_missed)
 
 -- finished runs with the same histories
-pub texts_agree : (tells : Contents) (c d : Clocking) (plan other : Parts) (log : Bool) (platforms others : List PlatformView) (misses missed : List Miss) (text written : List ℕ) → plan.graph ≡ other.graph → TellsSensors tells plan.graph → ((i : ℕ) → histories_of platforms i ≡ histories_of others i) →
-    IsFinishedRun tells c plan log platforms misses text → IsFinishedRun tells d other log others missed written → (text ≡ written) × (misses ≡ missed)
-texts_agree tells c d plan other log platforms others misses missed text written same told alike h k =
-    both tells plan.graph log platforms others misses missed text written told alike
-    (shows tells c plan log platforms misses text h)
-    (subst (λ g. Shows tells g log others missed written) (sym same) (shows tells d other log others missed written k))
+pub texts_agree : (contents : Contents) (c d : Clocking) (plan other : Parts) (log : Bool) (platforms others : List PlatformView) (misses missed : List Miss) (text written : List ℕ) → plan.graph ≡ other.graph → ReportsSensors contents plan.graph → ((i : ℕ) → histories_of platforms i ≡ histories_of others i) →
+    IsFinishedRun contents c plan log platforms misses text → IsFinishedRun contents d other log others missed written → (text ≡ written) × (misses ≡ missed)
+texts_agree contents c d plan other log platforms others misses missed text written same reported alike h k =
+    both contents plan.graph log platforms others misses missed text written reported alike
+    (shows contents c plan log platforms misses text h)
+    (subst (λ g. Shows contents g log others missed written) (sym same) (shows contents d other log others missed written k))
 
 pub finished_agree : FinishedRunsAgree
-finished_agree tells c d plan other log platforms others misses missed text written one two same told h k =
-    texts_agree tells c d plan other log platforms others misses missed text written same told (runs_agree tells c d plan other platforms others None None one two same told h.run k.run).0 h k
+finished_agree contents c d plan other log platforms others misses missed text written one two same reported h k =
+    texts_agree contents c d plan other log platforms others misses missed text written same reported (runs_agree contents c d plan other platforms others None None one two same reported h.run k.run).0 h k

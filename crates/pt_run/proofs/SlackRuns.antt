@@ -6,7 +6,7 @@ use Rattle.std.proofs.lemmas.Option.{slice_get_within}
 use Rattle.pt_tags.specs.declared.tag.Tag.{Tag}
 use Rattle.pt_types.specs.declared.firing.Task.{Task}
 use Rattle.pt_types.specs.declared.graph.Graph.{Graph}
-use Rattle.pt_types.specs.declared.graph.Unit.{Unit as Part}
+use Rattle.pt_types.specs.declared.graph.Unit.{Unit}
 use Rattle.pt_types.specs.declared.kind.Kind.{Kind}
 use Rattle.pt_types.specs.declared.kind.Kind.TheVariants.{Actuator, Send}
 use Rattle.pt_types.specs.declared.rows.Row.{Row}
@@ -29,20 +29,21 @@ use Rattle.pt_semantics.specs.Units.{at_input, first_port, unit_of}
 use Rattle.pt_semantics.specs.Visits.{Together}
 use Rattle.pt_semantics.proofs.LawfulEdges.{wired}
 use Rattle.pt_semantics.proofs.Lookups.{Each-in}
-use Rattle.pt_schedule.proofs.PacedRuns.{missed_when_paced, timely_when_paced}
+use Rattle.pt_paced_laws.proofs.PacedRuns.{missed_when_paced, timely_when_paced}
 use Rattle.pt_causality.specs.Ranked.{level_of}
 use Rattle.pt_offsets.specs.Margins.{unit_at}
 use Rattle.pt_offsets.specs.Plans.{Parts}
 use Rattle.pt_offsets.specs.Timings.{offset_of}
+use Rattle.pt_turn.specs.declared.fault.TurnFault.{TurnFault}
 use Rattle.pt_turn.specs.Platforms.{PlatformView}
 use Rattle.pt_monitors.specs.Platforms.{missed_by}
 use Rattle.pt_monitors.proofs.Members.{in_flat_map}
 use Rattle.pt_monitors.proofs.Missing.{lists_missed}
-use Rattle.pt_rounds.specs.HaveRun.{HaveRun}
+use Rattle.pt_rounds.specs.Outcome.{IsOutcome as IsPacedOutcome}
 use Rattle.pt_sensors.specs.Places.{of_run}
 use Rattle.pt_slacks.specs.Slacks.{AreLeastSlacks, slack_for, with_slack, with_slacks}
 use Rattle.pt_slacks.proofs.Changed.{input_with, kind_with}
-use Rattle.pt_made.proofs.Timely.{each_kept}
+use Rattle.pt_make.proofs.Timely.{each_kept}
 use Rattle.pt_run.specs.SlackRuns.{SlackRoundsMissNothing, SlackRunsMissNothing}
 use Rattle.pt_run.proofs.Complete.{agrees, same_ok}
 use Rattle.pt_run.proofs.Made.{none_of, place_of}
@@ -72,7 +73,7 @@ own_slack n slack (Actuator own) e = ((own, refl), same n slack e)
 own_slack n slack (Send own) e = absurd cc
 own_slack n slack _ e = absurd cc
 
-joined_timely : (g : Graph) (offset : Part → Option ℤ) (x y : Turn) → IsTimely g offset y → IsTimely g offset (joined x y)
+joined_timely : (g : Graph) (offset : Unit → Option ℤ) (x y : Turn) → IsTimely g offset y → IsTimely g offset (joined x y)
 joined_timely g offset x y h = record { claims = h.claims; posts = h.posts; sends = h.sends }
 
 module _ (g : Graph) (slack : ℕ → ℕ) (least : AreLeastSlacks g slack) where
@@ -82,7 +83,7 @@ module _ (g : Graph) (slack : ℕ → ℕ) (least : AreLeastSlacks g slack) wher
       input_with g slack task.actor (first_port task.inputs) ∙ ap (λ b. at_input g b (first_port task.inputs)) is
       ∙ ap (unit_at a) (ap (λ k. input_group k (first_port task.inputs)) acts ∙ sym (ap (λ k. input_group k 0) acts))
 
-  in_turn : (offset : Part → Option ℤ) → ((u : Part) → HasOffset (with_slacks g slack) u (offset u)) → (turn : Turn) → IsTimely (with_slacks g slack) offset turn → (a limit : ℕ) (t : Tag) → IsMissed (with_slacks g slack) turn a t limit → ⊥
+  in_turn : (offset : Unit → Option ℤ) → ((u : Unit) → HasOffset (with_slacks g slack) u (offset u)) → (turn : Turn) → IsTimely (with_slacks g slack) offset turn → (a limit : ℕ) (t : Tag) → IsMissed (with_slacks g slack) turn a t limit → ⊥
   in_turn offset has turn timely a limit t missed =
       let m = missed_when_paced (with_slacks g slack) offset turn a t limit timely missed in
       let u = unit_of (with_slacks g slack) m.0.task in
@@ -100,10 +101,10 @@ module _ (g : Graph) (slack : ℕ → ℕ) (least : AreLeastSlacks g slack) wher
     pub levels : AreLevels h (level_of plan.ranks)
     pub feasible : IsFeasible h
     pub fit : FitRows h rows
-    pub offsets : (u : Part) → HasOffset h u (offset_of plan.offsets u)
+    pub offsets : (u : Unit) → HasOffset h u (offset_of plan.offsets u)
     pub run : IsWholeRun h (level_of plan.ranks) rows y
 
-  module _ (plan : Parts) (rows : ℕ → List Row) (platforms : List PlatformView) (fault : Option ℕ) (is : plan.graph ≡ with_slacks g slack) (run : HaveRun plan (level_of plan.ranks) rows platforms fault) where
+  module _ (plan : Parts) (rows : ℕ → List Row) (platforms : List PlatformView) (fault : Option (ℕ × TurnFault)) (is : plan.graph ≡ with_slacks g slack) (run : IsPacedOutcome plan (level_of plan.ranks) rows platforms fault) where
     known : Known plan (with_slacks g slack) rows run.after.together
     known = subst (λ h. Known plan h rows run.after.together) is (record {
       lawful = run.admitted.lawful;
@@ -143,6 +144,6 @@ pub slack_rounds_miss_nothing : SlackRoundsMissNothing
 slack_rounds_miss_nothing g slack plan rows platforms fault least is run = none_missed g slack least plan rows platforms fault is run
 
 pub slack_runs_miss_nothing : SlackRunsMissNothing
-slack_runs_miss_nothing g slack workers log tells blocks name bytes text left least told defines (h, file, run) =
-    let same : h ≡ with_slacks g slack = sym (same_ok {E = GraphFault} (with_slacks g slack) h (agrees (graph_of blocks) (tells name) bytes (Ok (with_slacks g slack)) (Ok h) told (subst (λ z. IfSome z (λ bytes. graph_of blocks bytes ≡ Ok (with_slacks g slack))) (sym told) defines) file)) in
-    run.finished.missed ∙ slack_rounds_miss_nothing g slack run.plan (of_run run.plan.graph run.finished.run.rows) left.platforms None least (run.graph ∙ same) (run.finished.run.went.paced refl)
+slack_runs_miss_nothing g slack workers log contents blocks name bytes text left least reported defines (h, file, run) =
+    let same : h ≡ with_slacks g slack = sym (same_ok {E = GraphFault} (with_slacks g slack) h (agrees (graph_of blocks) (contents name) bytes (Ok (with_slacks g slack)) (Ok h) reported (subst (λ z. IfSome z (λ bytes. graph_of blocks bytes ≡ Ok (with_slacks g slack))) (sym reported) defines) file)) in
+    run.finished.missed ∙ slack_rounds_miss_nothing g slack run.plan (of_run run.plan.graph run.finished.run.rows) left.platforms None least (run.graph ∙ same) (run.finished.run.fact.paced refl)

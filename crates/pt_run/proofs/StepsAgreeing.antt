@@ -3,7 +3,7 @@ use Rattle.std.proofs.Common.{◌≡◌, ◌<◌, ◌≤◌, ◌^◌, ℕ, List,
 use Rattle.std.specs.Prelude.{option_map, unwrap_or}
 use Rattle.std.proofs.lemmas.Bool.{cases_lt}
 use Rattle.std.proofs.lemmas.Option.{slice_get_past}
-use Rattle.pt_io.specs.Told.{first_readings, step_reading}
+use Rattle.pt_io.specs.Clocks.{first_readings, step_reading}
 use Rattle.pt_io.proofs.Stepping.{one_begins}
 use Rattle.pt_types.specs.declared.graph.Graph.{Graph}
 use Rattle.pt_types.specs.declared.rows.Row.{Row}
@@ -12,22 +12,22 @@ use Rattle.pt_semantics.specs.Ranks.{AreLevels}
 use Rattle.pt_types.specs.Lookups.{platform_of}
 use Rattle.pt_semantics.proofs.Acyclic.{levels_are_one}
 use Rattle.pt_semantics.proofs.LawfulEdges.{wired}
-use Rattle.pt_together.proofs.Listed.{member}
-use Rattle.pt_schedule.specs.FixedOrderTheorems.{AreOfOneClock}
-use Rattle.pt_schedule.proofs.Counted.{counted}
-use Rattle.pt_schedule.proofs.OneOrder.{fixed_order_is_one}
+use Rattle.pt_engine.proofs.Listed.{member}
+use Rattle.pt_paced_laws.specs.FixedOrderTheorems.{AreOfOneClock}
+use Rattle.pt_paced_laws.proofs.Counted.{counted}
+use Rattle.pt_paced_laws.proofs.OneOrder.{fixed_order_is_one}
 use Rattle.pt_causality.specs.Ranked.{level_of}
 use Rattle.pt_offsets.specs.Plans.{Parts}
 use Rattle.pt_turn.specs.declared.fault.TurnFault.{TurnFault}
 use Rattle.pt_turn.specs.All.{histories_of}
 use Rattle.pt_turn.specs.Platforms.{PlatformView}
-use Rattle.pt_alone.specs.HasGone.{LastVisitEnds}
+use Rattle.pt_fixed_order.specs.Outcome.{LastVisitEnds}
 use Rattle.pt_words.specs.declared.orders.ClockChoice.TheVariants.{Step}
-use Rattle.pt_sensors.specs.Asked.{Contents}
+use Rattle.pt_io.specs.Calls.{Contents}
 use Rattle.pt_sensors.specs.Places.{of_run}
 use Rattle.pt_run.specs.Readings.{Clocking, ReadAs, ReadBy, ReadBySteps}
-use Rattle.pt_run.specs.Runs.{HasRun}
-use Rattle.pt_run.specs.RunsAgreeing.{AreFewReadings, StepRunsAgree, TellsSensors}
+use Rattle.pt_run.specs.Runs.{IsOutcomeOver}
+use Rattle.pt_run.specs.RunsAgreeing.{AreFewReadings, StepRunsAgree, ReportsSensors}
 use Rattle.pt_run.proofs.OneStop.{StopAlike, stop_alike, stop_one}
 use Rattle.pt_run.proofs.RunsAgreeing.{same_rows, texts_agree}
 
@@ -71,15 +71,15 @@ module _ (start step : ℕ) (plan : Parts) (rows : ℕ → List Row) (platforms 
   alike i lt = stop_alike in_turn.0.made fault stop (subst (λ made. LastVisitEnds made fault) (one i lt).0 h.in_turn.last) in_turn.1
 
 -- the histories of step runs, and the fault that stopped them
-pub step_runs : (tells : Contents) (start step : ℕ) (c d : Clocking) (plan other : Parts) (platforms others : List PlatformView) (fault stop : Option (ℕ × TurnFault)) → c.choice ≡ Step start step → d.choice ≡ Step start step → plan.graph ≡ other.graph → TellsSensors tells plan.graph →
-    AreFewReadings platforms → AreFewReadings others → HasRun tells c plan platforms fault → HasRun tells d other others stop → ((i : ℕ) → histories_of platforms i ≡ histories_of others i) × (fault ≡ stop)
-step_runs tells start step c d plan other platforms others fault stop one two graphs told few small h k =
-    let a = by_steps c start step plan (of_run plan.graph h.rows) platforms fault one h.went.readings in
-    let b = by_steps d start step other (of_run other.graph k.rows) others stop two k.went.readings in
+pub step_runs : (contents : Contents) (start step : ℕ) (c d : Clocking) (plan other : Parts) (platforms others : List PlatformView) (fault stop : Option (ℕ × TurnFault)) → c.choice ≡ Step start step → d.choice ≡ Step start step → plan.graph ≡ other.graph → ReportsSensors contents plan.graph →
+    AreFewReadings platforms → AreFewReadings others → IsOutcomeOver contents c plan platforms fault → IsOutcomeOver contents d other others stop → ((i : ℕ) → histories_of platforms i ≡ histories_of others i) × (fault ≡ stop)
+step_runs contents start step c d plan other platforms others fault stop one two graphs reported few small h k =
+    let a = by_steps c start step plan (of_run plan.graph h.rows) platforms fault one h.fact.readings in
+    let b = by_steps d start step other (of_run other.graph k.rows) others stop two k.fact.readings in
     let levels : level_of other.ranks ≡ level_of plan.ranks = levels_are_one plan.graph (level_of other.ranks) (level_of plan.ranks) (subst (λ (g : Graph). AreLevels g (level_of other.ranks)) (sym graphs) k.admitted.levels) h.admitted.levels in
-    let rows : of_run other.graph k.rows ≡ of_run plan.graph h.rows = same_rows tells plan.graph other.graph h.rows k.rows graphs told h.sensors k.sensors in
-    let count = h.went.kept.all.count in
-    let many = k.went.kept.all.count ∙ ap (λ (g : Graph). length g.platforms) (sym graphs) in
+    let rows : of_run other.graph k.rows ≡ of_run plan.graph h.rows = same_rows contents plan.graph other.graph h.rows k.rows graphs reported h.sensors k.sensors in
+    let count = h.fact.kept.all.count in
+    let many = k.fact.kept.all.count ∙ ap (λ (g : Graph). length g.platforms) (sym graphs) in
     let steps : (i : ℕ) (v : PlatformView) → slice_get others i ≡ Some v → b.readings i ≡ first_readings (step_reading start step) (length (b.readings i)) = λ i v at. b.steps i v at (subst (λ n. n < 2 ^ 64) (sym (counted v.turns (b.readings i) (b.read i v at))) (small i v at)) in
     let in_turn : EndsInTurn plan.graph (level_of plan.ranks) (of_run plan.graph h.rows) b.readings others stop =
     subst (λ level. EndsInTurn plan.graph level (of_run plan.graph h.rows) b.readings others stop) levels
@@ -87,11 +87,11 @@ step_runs tells start step c d plan other platforms others fault stop one two gr
     (subst (λ (g : Graph). EndsInTurn g (level_of other.ranks) (of_run other.graph k.rows) b.readings others stop) (sym graphs) (b.in_turn.visits, b.in_turn.last))) in
     let histories = same start step plan (of_run plan.graph h.rows) platforms others fault stop count many few a b.readings steps in_turn in
     let stopped = alike start step plan (of_run plan.graph h.rows) platforms others fault stop count many few a b.readings steps in_turn (platform_of plan.graph 0) ((wired plan.graph h.admitted.lawful).homes 0) in
-    (histories, stop_one plan other (of_run plan.graph h.rows) (of_run other.graph k.rows) platforms others fault stop graphs histories stopped h.went.kept k.went.kept)
+    (histories, stop_one plan other (of_run plan.graph h.rows) (of_run other.graph k.rows) platforms others fault stop graphs histories stopped h.fact.kept k.fact.kept)
 
 pub steps_agree : StepRunsAgree
-steps_agree tells start step c d plan other platforms others one two graphs told few small = (
-  λ fault stop h k. step_runs tells start step c d plan other platforms others fault stop one two graphs told few small h k,
-  λ log misses missed text written h k. texts_agree tells c d plan other log platforms others misses missed text written graphs told
-      (step_runs tells start step c d plan other platforms others None None one two graphs told few small h.run k.run).0 h k,
+steps_agree contents start step c d plan other platforms others one two graphs reported few small = (
+  λ fault stop h k. step_runs contents start step c d plan other platforms others fault stop one two graphs reported few small h k,
+  λ log misses missed text written h k. texts_agree contents c d plan other log platforms others misses missed text written graphs reported
+      (step_runs contents start step c d plan other platforms others None None one two graphs reported few small h.run k.run).0 h k,
 )

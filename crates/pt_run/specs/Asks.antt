@@ -3,11 +3,10 @@ use Rattle.std.specs.Prelude.{◌≡◌, ◌⊎◌, ◌+◌, ◌++◌, ℕ, List
 use Rattle.pt_types.specs.declared.graph.Graph.{Graph}
 use Rattle.pt_types.specs.declared.graph.Actor.{Actor}
 use Rattle.pt_blocks.specs.declared.blocks.Named.{Named}
-use Rattle.pt_sensors.specs.Asked.{Asks, AsksOrNot, AsksUpTo, Contents, Reading, sensor_files}
+use Rattle.pt_sensors.specs.Asked.{Asks, AsksOrNot, sensor_files}
+use Rattle.pt_io.specs.Calls.{Contents, Reading}
 use Rattle.pt_run.specs.declared.fault.Fault.{Fault}
 use Rattle.pt_run.specs.declared.fault.Fault.TheVariants as fault
-use Rattle.pt_run.specs.declared.plan_run.RunFault.{RunFault}
-use Rattle.pt_run.specs.declared.plan_run.RunFault.TheVariants as stop
 use Rattle.pt_words.specs.declared.orders.Command.{Command}
 use Rattle.pt_words.specs.declared.orders.Command.TheVariants.{Check, Slacks}
 use Rattle.pt_words.specs.Grammar.{Order, over, make, migrate, audit, replay}
@@ -44,7 +43,7 @@ AsksAlone outcome name before now = ⊥
 
 -- of a call on the graph file `name`: it gave no graph; or it defines one, and the files of these actors of it and `last` come after it
 abbrev pub AsksFrom : Option Fault → Contents → List Named → List ℕ → (Graph → List Actor) → List (List ℕ) → Option (List (List ℕ)) → Option (List (List ℕ)) → Type 0
-AsksFrom outcome tells blocks name actors last before now = AsksAlone outcome name before now ⊎ GraphWith tells blocks name (λ g. AsksOver outcome (name ∷ []) (actors g) last before now)
+AsksFrom outcome contents blocks name actors last before now = AsksAlone outcome name before now ⊎ GraphWith contents blocks name (λ g. AsksOver outcome (name ∷ []) (actors g) last before now)
 
 -- the files of all sensors of a graph, in its order
 abbrev pub all_sensors : Graph → List (List ℕ)
@@ -58,15 +57,9 @@ actors_for _ g = g.actors
 
 -- of each order: no file for a made input, the graph file alone for `migrate`, and one more at the end of an audit or a replay
 abbrev pub AsksOf : Option Fault → Option Order → Contents → List Named → Reading → Type 0
-AsksOf outcome None tells blocks r = Asks r.asked_before r.asked_now []
-AsksOf outcome (Some (over command name)) tells blocks r = AsksFrom outcome tells blocks name (actors_for command) [] r.asked_before r.asked_now
-AsksOf outcome (Some (make number workers)) tells blocks r = Asks r.asked_before r.asked_now []
-AsksOf outcome (Some (migrate name)) tells blocks r = AsksFrom outcome tells blocks name (λ g. []) [] r.asked_before r.asked_now
-AsksOf outcome (Some (audit name log)) tells blocks r = AsksFrom outcome tells blocks name (λ g. g.actors) (log ∷ []) r.asked_before r.asked_now
-AsksOf outcome (Some (replay name air workers log)) tells blocks r = AsksFrom outcome tells blocks name (λ g. g.actors) (air ∷ []) r.asked_before r.asked_now
-
--- of a run that did not finish: the files of its sensors up to that of a refused one, if one is; some, from the first on, if memory ran
--- out before all rows were read; else all
-abbrev pub AsksStopped : RunFault → Graph → Option (List (List ℕ)) → Option (List (List ℕ)) → Type 0
-AsksStopped (stop.Rows f) g before now = AsksUpTo f g before now
-AsksStopped f g before now = Asks before now (all_sensors g)
+AsksOf outcome None contents blocks r = Asks r.asked_before r.asked_now []
+AsksOf outcome (Some (over command name)) contents blocks r = AsksFrom outcome contents blocks name (actors_for command) [] r.asked_before r.asked_now
+AsksOf outcome (Some (make number workers)) contents blocks r = Asks r.asked_before r.asked_now []
+AsksOf outcome (Some (migrate name)) contents blocks r = AsksFrom outcome contents blocks name (λ g. []) [] r.asked_before r.asked_now
+AsksOf outcome (Some (audit name log)) contents blocks r = AsksFrom outcome contents blocks name (λ g. g.actors) (log ∷ []) r.asked_before r.asked_now
+AsksOf outcome (Some (replay name air workers log)) contents blocks r = AsksFrom outcome contents blocks name (λ g. g.actors) (air ∷ []) r.asked_before r.asked_now

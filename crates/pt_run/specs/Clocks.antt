@@ -1,6 +1,6 @@
 -- The clocks that were handed in, after a call.
-use Rattle.std.specs.Prelude.{◌≡◌, [], List, Option, Some, false, Result, Ok, Err, length}
-use Rattle.pt_io.specs.Told.{ClockView}
+use Rattle.std.specs.Prelude.{◌≡◌, [], List, Option, Some, false, length}
+use Rattle.pt_io.specs.Clocks.{ClockView}
 use Rattle.pt_words.specs.declared.orders.ClockChoice.{ClockChoice}
 use Rattle.pt_words.specs.declared.orders.ClockChoice.TheVariants.{Machine}
 use Rattle.pt_run.specs.Readings.{read_by}
@@ -8,9 +8,6 @@ use Rattle.pt_run.specs.Written.{has_run}
 use Rattle.pt_run.specs.declared.fault.Fault.{Fault}
 use Rattle.pt_words.specs.declared.orders.Command.{Command}
 use Rattle.pt_words.specs.declared.orders.Command.TheVariants.{Run}
-use Rattle.pt_run.specs.declared.plan_run.RunFault.{RunFault}
-use Rattle.pt_run.specs.declared.plan_run.RunFault.TheVariants.{Memory, Rows}
-use Rattle.pt_run.specs.declared.finished_run.Ran.{Ran}
 use Rattle.pt_words.specs.Grammar.{Order, over}
 
 -- those of the clocks handed in that a command reads
@@ -33,13 +30,6 @@ AreBackBy _ outcome before now = now ≡ before
 abbrev pub AreAsMany : {C : Type 0} → ClockChoice → List C → List C → Type 0
 AreAsMany Machine before now = length now ≡ length before
 AreAsMany _ before now = now ≡ before
-
--- the same after a run of a plan: where it has no platforms, and memory did not run out, the clocks are as they were
-abbrev pub AreBackAfterRun : {C : Type 0} → Result Ran RunFault → ClockChoice → List C → List C → Type 0
-AreBackAfterRun (Ok ran) clock before now = AreAsMany clock before now
-AreBackAfterRun (Err (Rows f)) clock before now = now ≡ before
-AreBackAfterRun (Err Memory) clock before now = Unit {0}
-AreBackAfterRun (Err f) clock before now = AreAsMany clock before now
 
 -- after a command
 abbrev pub AreBackFor : {C : Type 0} → Command → Option Fault → List C → List C → Type 0

@@ -11,11 +11,11 @@ use Rattle.pt_semantics.specs.Cycles.{NoFreeCycle}
 use Rattle.pt_semantics.specs.Meaning.{ActorFiring}
 use Rattle.pt_semantics.specs.Offsets.{IsFeasible}
 use Rattle.pt_semantics.specs.Parts.{parts}
-use Rattle.pt_schedule.specs.Schedule.{IsMissedByMeaning}
+use Rattle.pt_paced_laws.specs.Schedule.{IsMissedByMeaning}
 use Rattle.pt_sensors.specs.declared.recorded_fault.LateRows.TheVariants.{Refused}
-use Rattle.pt_sensors.specs.Asked.{Contents, Reading}
+use Rattle.pt_io.specs.Calls.{Contents, Reading, Writing}
 use Rattle.pt_sensors.specs.Recorded.{AllPass, AreRows}
-use Rattle.pt_run.specs.RunsAgreeing.{TellsSensors}
+use Rattle.pt_run.specs.RunsAgreeing.{ReportsSensors}
 use Rattle.pt_turn.specs.Platforms.{PlatformView, state_at}
 use Rattle.pt_turn.specs.Running.{ShowsLate, ShowsLong}
 use Rattle.pt_monitors.specs.Platforms.{missed_by}
@@ -24,32 +24,30 @@ use Rattle.pt_words.specs.declared.orders.ClockChoice.TheVariants.{Paced}
 use Rattle.pt_run.specs.declared.fault.Fault.{Fault}
 use Rattle.pt_run.specs.declared.fault.Fault.TheVariants.{LateMessage, Long, Memory}
 use Rattle.pt_words.specs.declared.orders.Command.TheVariants.{Run}
-use Rattle.pt_run.specs.Causes.{Writing}
 use Rattle.pt_run.specs.Written.{Leaves, Means}
 use Rattle.pt_words.specs.Grammar.{Order, over}
-use Rattle.pt_types.specs.Limits.{most_claims}
 
 -- the files are known and a run can begin: the graph file defines this graph, which is admitted, and each sensor's file has
 -- rows, none of which is late
-pub record CanBegin (tells : Contents) (blocks : List Named) (name : List ℕ) (g : Graph) : Type 0 where
+pub record CanBegin (contents : Contents) (blocks : List Named) (name : List ℕ) (g : Graph) : Type 0 where
   pub bytes : List ℕ
-  pub told : tells name ≡ Some bytes
+  pub reported : contents name ≡ Some bytes
   pub graph : graph_of blocks bytes ≡ Ok g
   pub no_free_cycle : NoFreeCycle g
   pub feasible : IsFeasible g
-  pub files : TellsSensors tells g
+  pub files : ReportsSensors contents g
   pub rows : ℕ → List Row
-  pub sensors : AreRows tells g rows
+  pub sensors : AreRows contents g rows
   pub in_time : AllPass Refused g rows
 
 -- and their program can run: these firings are the meaning
-pub record CanRun (tells : Contents) (blocks : List Named) (name : List ℕ) (g : Graph) (firings : List ActorFiring) : Type 0 where
-  pub begins : CanBegin tells blocks name g
+pub record CanRun (contents : Contents) (blocks : List Named) (name : List ℕ) (g : Graph) (firings : List ActorFiring) : Type 0 where
+  pub begins : CanBegin contents blocks name g
   pub means : Means g begins.rows firings
 
 -- on no platform does the meaning have more firings of units than the platform may claim
 abbrev pub FitsClaims : Graph → List ActorFiring → Type 0
-FitsClaims g firings = (i : ℕ) → i < length g.platforms → unit_firings g i (parts g firings) ≤ most_claims
+FitsClaims g firings = (i : ℕ) → i < length g.platforms → unit_firings g i (parts g firings) ≤ g.claims
 
 -- an actuator fires with its paced reading past its tag's time plus its slack
 abbrev pub MissesSome : Graph → List ActorFiring → Type 0
@@ -66,8 +64,8 @@ StatusIsMeant status g firings =
 
 -- for a paced run of such a program, if neither the source's nor the sink's count of faults rose
 abbrev pub IsComplete : ℕ → Option Order → Contents → List Named → Reading → Writing → Type 0
-IsComplete status order tells blocks r w = (workers : ℕ) (log : Bool) (name : List ℕ) (g : Graph) (firings : List ActorFiring) →
-    order ≡ Some (over (Run workers Paced log) name) → CanRun tells blocks name g firings → (Rose r.before r.now → ⊥) → (Rose w.before w.now → ⊥) → StatusIsMeant status g firings
+IsComplete status order contents blocks r w = (workers : ℕ) (log : Bool) (name : List ℕ) (g : Graph) (firings : List ActorFiring) →
+    order ≡ Some (over (Run workers Paced log) name) → CanRun contents blocks name g firings → (Rose r.before r.now → ⊥) → (Rose w.before w.now → ⊥) → StatusIsMeant status g firings
 
 -- a fact holds of this platform of those that are left, which is one of this graph
 abbrev pub OnPlatform : Leaves → Graph → ℕ → (PlatformView → Type 0) → Type 0
@@ -84,5 +82,5 @@ EndsAsShown (Some f) left g = ⊥
 
 -- so ends a run that can begin, by whatever clock, if neither count rose
 abbrev pub IsCompleteByAnyClock : Option Fault → Leaves → Option Order → Contents → List Named → Reading → Writing → Type 0
-IsCompleteByAnyClock outcome left order tells blocks r w = (workers : ℕ) (clock : ClockChoice) (log : Bool) (name : List ℕ) (g : Graph) →
-    order ≡ Some (over (Run workers clock log) name) → CanBegin tells blocks name g → (Rose r.before r.now → ⊥) → (Rose w.before w.now → ⊥) → EndsAsShown outcome left g
+IsCompleteByAnyClock outcome left order contents blocks r w = (workers : ℕ) (clock : ClockChoice) (log : Bool) (name : List ℕ) (g : Graph) →
+    order ≡ Some (over (Run workers clock log) name) → CanBegin contents blocks name g → (Rose r.before r.now → ⊥) → (Rose w.before w.now → ⊥) → EndsAsShown outcome left g

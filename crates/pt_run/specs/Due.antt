@@ -12,7 +12,7 @@ use Rattle.pt_graph_text.specs.declared.fault.GraphFault.{GraphFault}
 use Rattle.pt_graph.specs.GraphOf.{graph_of}
 use Rattle.pt_semantics.specs.Cycles.{NoFreeCycle}
 use Rattle.pt_semantics.specs.Offsets.{IsFeasible}
-use Rattle.pt_causality.specs.Ranked.{IsFreeCycle}
+use Rattle.pt_causality.specs.Ranked.{IsFreeCycle, level_of}
 use Rattle.pt_offsets.specs.Margins.{IsFirstInfeasible}
 use Rattle.pt_offsets.specs.Plans.{IsAdmitted, Parts}
 use Rattle.pt_slacks.specs.Rings.{IsRing}
@@ -20,13 +20,15 @@ use Rattle.pt_slacks.specs.Text.{IsSlacked}
 use Rattle.pt_sensors.specs.declared.fault.RowFault.{RowFault}
 use Rattle.pt_sensors.specs.declared.recorded_fault.LateRows.{LateRows}
 use Rattle.pt_sensors.specs.declared.recorded_fault.LateRows.TheVariants.{Refused, Taken}
-use Rattle.pt_sensors.specs.Asked.{Contents, ReadFails, Reading}
+use Rattle.pt_sensors.specs.Asked.{ReadFails}
+use Rattle.pt_io.specs.Calls.{Contents, Reading, Writing}
 use Rattle.pt_sensors.specs.Places.{of_run}
 use Rattle.pt_sensors.specs.Recorded.{AllPass, AreRows, SensorFails, SensorLate, SensorUnread}
 use Rattle.pt_air.specs.declared.fault.AirFault.{AirFault}
 use Rattle.pt_air.specs.AirOf.{air_of}
 use Rattle.pt_audit.specs.declared.verdict.Verdict.{Verdict}
 use Rattle.pt_turn.specs.Platforms.{PlatformView}
+use Rattle.pt_rounds.specs.Outcome.{IsOutcome as IsPacedOutcome}
 use Rattle.pt_words.specs.declared.orders.ClockChoice.{ClockChoice}
 use Rattle.pt_words.specs.declared.orders.ClockChoice.TheVariants.{Paced}
 use Rattle.pt_run.specs.declared.fault.Fault.{Fault}
@@ -35,12 +37,11 @@ use Rattle.pt_run.specs.declared.outcome.Ending.{Ending}
 use Rattle.pt_words.specs.declared.orders.Command.{Command}
 use Rattle.pt_words.specs.declared.orders.Command.TheVariants.{Run, Check, Meaning, Slacks}
 use Rattle.pt_run.specs.Auditing.{Accepts, IsUnlawful, LastFails, lawful_line}
-use Rattle.pt_run.specs.Causes.{IsTooLongForAll, Writing}
+use Rattle.pt_run.specs.Causes.{IsTooLongForAll}
 use Rattle.pt_run.specs.Leaving.{LeavesRun}
 use Rattle.pt_run.specs.Making.{IsMadeRun}
 use Rattle.pt_run.specs.Migrating.{IsMigrated}
 use Rattle.pt_run.specs.Replaying.{LeavesReplay, OnAir, has_replayed}
-use Rattle.pt_run.specs.Runs.{RunsPaced}
 use Rattle.pt_run.specs.Texts.{left_by}
 use Rattle.pt_words.specs.Grammar.{Order, over, make, migrate, audit, replay}
 use Rattle.pt_run.specs.Written.{FitOnAll, GraphWith, HasNothing, IsChecked, IsTables, Leaves, clocking, has_run, leaves_nothing, stop_of}
@@ -51,6 +52,14 @@ pub record Answer : Type 0 where
   pub left : Leaves
   pub read : Reading
   pub wrote : Writing
+
+-- the answer of a call that ended with this fault or without one, left this, and read and wrote so
+abbrev pub as_answer : Option Fault → Leaves → Reading → Writing → Answer
+as_answer outcome left r w = record { fault = outcome; left = left; read = r; wrote = w }
+
+-- the answer of a call that ended so and read no clock that was handed in
+abbrev pub answer_by : Ending → Reading → Writing → Answer
+answer_by o r w = as_answer o.fault (left_by o) r w
 
 -- the call is refused with this fault: it leaves nothing and writes nothing
 abbrev pub RefusedWith : Fault → Answer → Type 0
@@ -99,10 +108,10 @@ AnswersAsDue text made r Due = (a : Answer) → a.read ≡ r → Answers text ma
 
 -- the graph file: it could not be read; or its text has a fault; or it defines a graph, and the call goes on with it
 abbrev pub AfterFile : Contents → List Named → List ℕ → Answer → (Graph → Type 0) → Type 0
-AfterFile tells blocks name a Then =
+AfterFile contents blocks name a Then =
     (RefusedWith (fault.Read None) a × ReadFails [] name a.read)
-    ⊎ (((f : GraphFault) × RefusedWith (fault.Graph f) a × IfSome (tells name) (λ bytes. graph_of blocks bytes ≡ Err f))
-    ⊎ GraphWith tells blocks name Then)
+    ⊎ (((f : GraphFault) × RefusedWith (fault.Graph f) a × IfSome (contents name) (λ bytes. graph_of blocks bytes ≡ Err f))
+    ⊎ GraphWith contents blocks name Then)
 
 -- cycles: these actors are a cycle that takes no time; or there is none
 abbrev pub AfterCycles : Graph → Answer → Type 0 → Type 0
@@ -117,18 +126,18 @@ AfterOffsets g a Then =
 -- the sensors' files, in order: this sensor is the first without rows, since its file could not be read, or has a fault, or has a
 -- row that is late where late rows are refused; or all sensors have rows. `others` were asked for before
 abbrev pub AfterRows : LateRows → Contents → Graph → List (List ℕ) → Answer → ((ℕ → List Row) → Type 0) → Type 0
-AfterRows late tells g others a Then =
-    ((actor : ℕ) × RefusedWith (fault.Read (Some actor)) a × SensorUnread late tells g actor others a.read)
-    ⊎ (((actor : ℕ) × (f : RowFault) × RefusedWith (fault.Sensor actor f) a × SensorFails late tells g actor f)
-    ⊎ (((actor : ℕ) × (row : ℕ) × (seen : ℕ) × (limit : ℕ) × RefusedWith (fault.LateRow actor row seen limit) a × (late ≡ Refused) × SensorLate tells g actor row seen limit)
-    ⊎ ((rows : ℕ → List Row) × AreRows tells g rows × AllPass late g rows × Then rows)))
+AfterRows late contents g others a Then =
+    ((actor : ℕ) × RefusedWith (fault.Read (Some actor)) a × SensorUnread late contents g actor others a.read)
+    ⊎ (((actor : ℕ) × (f : RowFault) × RefusedWith (fault.Sensor actor f) a × SensorFails late contents g actor f)
+    ⊎ (((actor : ℕ) × (row : ℕ) × (seen : ℕ) × (limit : ℕ) × RefusedWith (fault.LateRow actor row seen limit) a × (late ≡ Refused) × SensorLate contents g actor row seen limit)
+    ⊎ ((rows : ℕ → List Row) × AreRows contents g rows × AllPass late g rows × Then rows)))
 
 -- the recording: it could not be read; or its text has a fault; or the call goes on. `others` and files of sensors were asked for
 -- before
 abbrev pub AfterAir : List ℕ → Contents → Graph → List (List ℕ) → Answer → Type 0 → Type 0
-AfterAir air tells g others a Then =
+AfterAir air contents g others a Then =
     (RefusedWith fault.ReadAir a × LastFails g others air a.read)
-    ⊎ (((f : AirFault) × RefusedWith (fault.Air f) a × IfSome (tells air) (λ bytes. air_of g bytes ≡ Err f))
+    ⊎ (((f : AirFault) × RefusedWith (fault.Air f) a × IfSome (contents air) (λ bytes. air_of g bytes ≡ Err f))
     ⊎ Then)
 
 -- a fact of an admitted plan of the graph
@@ -138,8 +147,8 @@ WithPlan g Fact = (plan : Parts) × (plan.graph ≡ g) × IsAdmitted plan × Fac
 -- what a run must have to be admitted: no free cycle, no late sender, rows none of which is late; then a fact of its plan and of
 -- its rows up to the horizon
 abbrev pub AfterAdmission : Contents → Graph → List (List ℕ) → Answer → (Parts → (ℕ → List Row) → Type 0) → Type 0
-AfterAdmission tells g others a Then =
-    AfterCycles g a (AfterOffsets g a (AfterRows Refused tells g others a (λ rows. WithPlan g (λ plan. Then plan (of_run g rows)))))
+AfterAdmission contents g others a Then =
+    AfterCycles g a (AfterOffsets g a (AfterRows Refused contents g others a (λ rows. WithPlan g (λ plan. Then plan (of_run g rows)))))
 
 -- The last stage of each command.
 
@@ -149,7 +158,7 @@ pub record HasRunBy (workers : ℕ) (clock : ClockChoice) (log : Bool) (a : Answ
   pub leaves : LeavesRun (clocking workers clock a.left) log a.fault a.left a.wrote plan rows
   pub failed : a.fault ≡ Some fault.Write → Rose a.wrote.before a.wrote.now
   -- what more is known of a paced run
-  pub paced : clock ≡ Paced → RunsPaced plan rows a.left.platforms (stop_of a.fault)
+  pub paced : clock ≡ Paced → IsPacedOutcome plan (level_of plan.ranks) rows a.left.platforms (stop_of a.fault)
 
 -- `meaning`: it has too many firings, or its tables are put
 abbrev pub IsMeantBy : Graph → (ℕ → List Row) → Answer → Type 0
@@ -161,44 +170,44 @@ IsSlackedBy g a = ((sends : List ℕ) × (gain : ℕ) × RefusedWith (fault.Ring
 
 -- `audit`: the log could not be read; or this verdict refuses it; or it is lawful, and `lawful` is put
 abbrev pub IsJudgedBy : List ℕ → Contents → Graph → List (List ℕ) → Answer → Parts → (ℕ → List Row) → Type 0
-IsJudgedBy log tells g others a plan rows =
+IsJudgedBy log contents g others a plan rows =
     (RefusedWith fault.ReadLog a × LastFails g others log a.read)
-    ⊎ (((v : Verdict) × RefusedWith (fault.Unlawful v) a × IfSome (tells log) (λ bytes. IsUnlawful plan rows bytes v))
-    ⊎ (IfSome (tells log) (Accepts plan rows) × OnlyPuts a (λ text. text ≡ lawful_line)))
+    ⊎ (((v : Verdict) × RefusedWith (fault.Unlawful v) a × IfSome (contents log) (λ bytes. IsUnlawful plan rows bytes v))
+    ⊎ (IfSome (contents log) (Accepts plan rows) × OnlyPuts a (λ text. text ≡ lawful_line)))
 
 -- a replay that ran: all was written, or a write failed, or a platform stopped it
-pub record HasReplayedBy (air : List ℕ) (log : Bool) (tells : Contents) (a : Answer) (plan : Parts) (rows : ℕ → List Row) : Type 0 where
+pub record HasReplayedBy (air : List ℕ) (log : Bool) (contents : Contents) (a : Answer) (plan : Parts) (rows : ℕ → List Row) : Type 0 where
   pub ran : has_replayed a.fault ≡ true
-  pub leaves : OnAir tells air (LeavesReplay log a.fault a.left a.wrote) plan rows
+  pub leaves : OnAir contents air (LeavesReplay log a.fault a.left a.wrote) plan rows
   pub failed : a.fault ≡ Some fault.Write → Rose a.wrote.before a.wrote.now
 
 -- `replay`: the recording, and then the run
 abbrev pub IsReplayedBy : List ℕ → Bool → Contents → Graph → List (List ℕ) → Answer → Parts → (ℕ → List Row) → Type 0
-IsReplayedBy air log tells g others a plan rows = AfterAir air tells g others a (HasReplayedBy air log tells a plan rows)
+IsReplayedBy air log contents g others a plan rows = AfterAir air contents g others a (HasReplayedBy air log contents a plan rows)
 
 -- the stages of each command over a graph; `others` were asked for before the sensors' files
 abbrev pub IsDueFor : Command → Contents → Graph → List (List ℕ) → Answer → Type 0
-IsDueFor (Run workers clock log) tells g others a = AfterAdmission tells g others a (HasRunBy workers clock log a)
-IsDueFor Check tells g others a = AfterCycles g a (AfterOffsets g a (OnlyPuts a (IsChecked g)))
-IsDueFor Meaning tells g others a = AfterCycles g a (AfterRows Taken tells g others a (λ rows. IsMeantBy g rows a))
-IsDueFor Slacks tells g others a = AfterCycles g a (IsSlackedBy g a)
+IsDueFor (Run workers clock log) contents g others a = AfterAdmission contents g others a (HasRunBy workers clock log a)
+IsDueFor Check contents g others a = AfterCycles g a (AfterOffsets g a (OnlyPuts a (IsChecked g)))
+IsDueFor Meaning contents g others a = AfterCycles g a (AfterRows Taken contents g others a (λ rows. IsMeantBy g rows a))
+IsDueFor Slacks contents g others a = AfterCycles g a (IsSlackedBy g a)
 
 -- the stages of an audit over a graph, and of a replay
 abbrev pub IsAudited : List ℕ → Contents → Graph → List (List ℕ) → Answer → Type 0
-IsAudited log tells g others a = AfterAdmission tells g others a (IsJudgedBy log tells g others a)
+IsAudited log contents g others a = AfterAdmission contents g others a (IsJudgedBy log contents g others a)
 
 abbrev pub IsReplayed : List ℕ → Bool → Contents → Graph → List (List ℕ) → Answer → Type 0
-IsReplayed air log tells g others a = AfterAdmission tells g others a (IsReplayedBy air log tells g others a)
+IsReplayed air log contents g others a = AfterAdmission contents g others a (IsReplayedBy air log contents g others a)
 
 -- the stages of each order: `make` reads no file, and `migrate` writes any graph that its file defines
 abbrev pub IsDueTo : Order → Contents → List Named → Answer → Type 0
-IsDueTo (over command name) tells blocks a = AfterFile tells blocks name a (λ g. IsDueFor command tells g (name ∷ []) a)
-IsDueTo (make number workers) tells blocks a = (a.left.misses ≡ []) × PutsText a (IsMadeRun number a.left.platforms)
-IsDueTo (migrate name) tells blocks a = AfterFile tells blocks name a (λ g. OnlyPuts a (IsMigrated g blocks))
-IsDueTo (audit name log) tells blocks a = AfterFile tells blocks name a (λ g. IsAudited log tells g (name ∷ []) a)
-IsDueTo (replay name air workers log) tells blocks a = AfterFile tells blocks name a (λ g. IsReplayed air log tells g (name ∷ []) a)
+IsDueTo (over command name) contents blocks a = AfterFile contents blocks name a (λ g. IsDueFor command contents g (name ∷ []) a)
+IsDueTo (make number workers) contents blocks a = (a.left.misses ≡ []) × PutsText a (IsMadeRun number a.left.platforms)
+IsDueTo (migrate name) contents blocks a = AfterFile contents blocks name a (λ g. OnlyPuts a (IsMigrated g blocks))
+IsDueTo (audit name log) contents blocks a = AfterFile contents blocks name a (λ g. IsAudited log contents g (name ∷ []) a)
+IsDueTo (replay name air workers log) contents blocks a = AfterFile contents blocks name a (λ g. IsReplayed air log contents g (name ∷ []) a)
 
 -- how a call ends: memory ran out; or the words are not a valid command line; or as is due
 abbrev pub IsDue : Option Order → Contents → List Named → Answer → Type 0
-IsDue None tells blocks a = UnlessMemory a (RefusedWith fault.Usage)
-IsDue (Some order) tells blocks a = UnlessMemory a (IsDueTo order tells blocks)
+IsDue None contents blocks a = UnlessMemory a (RefusedWith fault.Usage)
+IsDue (Some order) contents blocks a = UnlessMemory a (IsDueTo order contents blocks)

@@ -3,7 +3,7 @@
 use Rattle.std.specs.Prelude.{◌≡◌, ◌⊎◌, ℕ, List, Option, Some, None}
 use Rattle.pt_blocks.specs.Blocks.{AreBlocks}
 use Rattle.pt_blocks.specs.declared.blocks.Named.{Named}
-use Rattle.pt_sensors.specs.Asked.{Contents}
+use Rattle.pt_io.specs.Calls.{Contents}
 use Rattle.pt_run.specs.Agreeing.{TellsAll}
 use Rattle.pt_run.specs.Due.{Answer, IsDue}
 use Rattle.pt_words.specs.Grammar.{Order, over, make, migrate, audit, replay}
@@ -21,47 +21,47 @@ IsCutShort _ = ⊥
 
 -- the content of the file with this name is known
 abbrev pub IsKnown : Contents → List ℕ → Type 0
-IsKnown tells name = (bytes : List ℕ) × (tells name ≡ Some bytes)
+IsKnown contents name = (bytes : List ℕ) × (contents name ≡ Some bytes)
 
 -- that of the graph file is known
 abbrev pub GraphKnown : Order → Contents → Type 0
-GraphKnown (over command name) tells = IsKnown tells name
-GraphKnown (make number workers) tells = ⊥
-GraphKnown (migrate name) tells = IsKnown tells name
-GraphKnown (audit name log) tells = IsKnown tells name
-GraphKnown (replay name air workers log) tells = IsKnown tells name
+GraphKnown (over command name) contents = IsKnown contents name
+GraphKnown (make number workers) contents = ⊥
+GraphKnown (migrate name) contents = IsKnown contents name
+GraphKnown (audit name log) contents = IsKnown contents name
+GraphKnown (replay name air workers log) contents = IsKnown contents name
 
 -- and those of its sensors' files
 abbrev pub RowsKnown : Order → Contents → List Named → Type 0
-RowsKnown (over command name) tells blocks = TellsAll tells blocks name
-RowsKnown (make number workers) tells blocks = ⊥
-RowsKnown (migrate name) tells blocks = ⊥
-RowsKnown (audit name log) tells blocks = TellsAll tells blocks name
-RowsKnown (replay name air workers log) tells blocks = TellsAll tells blocks name
+RowsKnown (over command name) contents blocks = TellsAll contents blocks name
+RowsKnown (make number workers) contents blocks = ⊥
+RowsKnown (migrate name) contents blocks = ⊥
+RowsKnown (audit name log) contents blocks = TellsAll contents blocks name
+RowsKnown (replay name air workers log) contents blocks = TellsAll contents blocks name
 
 -- and that of the log or of the recording
 abbrev pub LastKnown : Order → Contents → List Named → Type 0
-LastKnown (audit name log) tells blocks = TellsAll tells blocks name × IsKnown tells log
-LastKnown (replay name air workers log) tells blocks = TellsAll tells blocks name × IsKnown tells air
-LastKnown _ tells blocks = ⊥
+LastKnown (audit name log) contents blocks = TellsAll contents blocks name × IsKnown contents log
+LastKnown (replay name air workers log) contents blocks = TellsAll contents blocks name × IsKnown contents air
+LastKnown _ contents blocks = ⊥
 
 -- the files on which this answer depends are known; no files decide any other answer
 abbrev pub IsDecided : Option Fault → Order → Contents → List Named → Type 0
-IsDecided (Some (fault.Graph f)) order tells blocks = GraphKnown order tells
-IsDecided (Some (fault.Cycle actors)) order tells blocks = GraphKnown order tells
-IsDecided (Some (fault.Infeasible send offset slack)) order tells blocks = GraphKnown order tells
-IsDecided (Some (fault.Ring sends gain)) order tells blocks = GraphKnown order tells × AreBlocks blocks
-IsDecided (Some (fault.Sensor actor f)) order tells blocks = RowsKnown order tells blocks
-IsDecided (Some (fault.LateRow actor row seen limit)) order tells blocks = RowsKnown order tells blocks
-IsDecided (Some (fault.Long None)) order tells blocks = RowsKnown order tells blocks
-IsDecided (Some (fault.Unlawful v)) order tells blocks = LastKnown order tells blocks
-IsDecided (Some (fault.Air f)) order tells blocks = LastKnown order tells blocks
-IsDecided None (over Check name) tells blocks = IsKnown tells name
-IsDecided None (over Meaning name) tells blocks = TellsAll tells blocks name
-IsDecided None (over Slacks name) tells blocks = IsKnown tells name × AreBlocks blocks
-IsDecided None (migrate name) tells blocks = IsKnown tells name
-IsDecided None (audit name log) tells blocks = LastKnown (audit name log) tells blocks
-IsDecided _ order tells blocks = ⊥
+IsDecided (Some (fault.Graph f)) order contents blocks = GraphKnown order contents
+IsDecided (Some (fault.Cycle actors)) order contents blocks = GraphKnown order contents
+IsDecided (Some (fault.Infeasible send offset slack)) order contents blocks = GraphKnown order contents
+IsDecided (Some (fault.Ring sends gain)) order contents blocks = GraphKnown order contents × AreBlocks blocks
+IsDecided (Some (fault.Sensor actor f)) order contents blocks = RowsKnown order contents blocks
+IsDecided (Some (fault.LateRow actor row seen limit)) order contents blocks = RowsKnown order contents blocks
+IsDecided (Some (fault.Long None)) order contents blocks = RowsKnown order contents blocks
+IsDecided (Some (fault.Unlawful v)) order contents blocks = LastKnown order contents blocks
+IsDecided (Some (fault.Air f)) order contents blocks = LastKnown order contents blocks
+IsDecided None (over Check name) contents blocks = IsKnown contents name
+IsDecided None (over Meaning name) contents blocks = TellsAll contents blocks name
+IsDecided None (over Slacks name) contents blocks = IsKnown contents name × AreBlocks blocks
+IsDecided None (migrate name) contents blocks = IsKnown contents name
+IsDecided None (audit name log) contents blocks = LastKnown (audit name log) contents blocks
+IsDecided _ order contents blocks = ⊥
 
 -- the answer that is due, or another one of its kind: another cycle or ring, or a failed write of a text that is due
 abbrev pub IsAlike : Option Fault → Option Fault → Type 0
@@ -72,5 +72,5 @@ IsAlike due outcome = outcome ≡ due
 
 -- whatever answer is due to this order, and decided by known files, the call ends with it or with one of its kind, or was cut short
 abbrev pub IsExact : Option Fault → Option Order → Contents → List Named → Type 0
-IsExact outcome None tells blocks = Unit {0}
-IsExact outcome (Some order) tells blocks = (due : Answer) → IsDue (Some order) tells blocks due → IsDecided due.fault order tells blocks → IsCutShort outcome ⊎ IsAlike due.fault outcome
+IsExact outcome None contents blocks = Unit {0}
+IsExact outcome (Some order) contents blocks = (due : Answer) → IsDue (Some order) contents blocks due → IsDecided due.fault order contents blocks → IsCutShort outcome ⊎ IsAlike due.fault outcome

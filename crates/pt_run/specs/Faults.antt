@@ -1,5 +1,5 @@
 -- The fault of a call, from the faults of its parts.
-use Rattle.std.specs.Prelude.{Some}
+use Rattle.std.specs.Prelude.{ℕ, None, Option, Some}
 use Rattle.pt_graph_text.specs.declared.fault.GraphFault.{GraphFault}
 use Rattle.pt_graph_text.specs.declared.fault.GraphFault.TheVariants as graph
 use Rattle.pt_causality.specs.declared.cycle.CycleFault.{CycleFault}
@@ -14,6 +14,8 @@ use Rattle.pt_air.specs.declared.fault.AirFault.{AirFault}
 use Rattle.pt_air.specs.declared.fault.AirFault.TheVariants as air
 use Rattle.pt_slacks.specs.declared.slack.SlackFault.{SlackFault}
 use Rattle.pt_slacks.specs.declared.slack.SlackFault.TheVariants as slack
+use Rattle.pt_turn.specs.declared.fault.TurnFault.{TurnFault}
+use Rattle.pt_turn.specs.declared.fault.TurnFault.TheVariants as turn
 use Rattle.pt_run.specs.declared.fault.Fault.{Fault}
 use Rattle.pt_run.specs.declared.fault.Fault.TheVariants as fault
 
@@ -54,3 +56,10 @@ fault_of_rows (recorded.Late actor row seen limit) = fault.LateRow actor row see
 abbrev pub fault_of_air : AirFault → Fault
 fault_of_air air.Memory = fault.Memory
 fault_of_air f = fault.Air f
+
+-- the fault of a call whose run this platform stopped with this fault; in a replay with the first row of its recording that breaks a
+-- stated bound, if one does
+abbrev pub fault_of_turn : ℕ → Option ℕ → TurnFault → Fault
+fault_of_turn platform breach turn.Long = fault.Long (Some platform)
+fault_of_turn platform None (turn.Late actor tag reading limit) = fault.LateMessage platform actor tag reading limit
+fault_of_turn platform (Some row) (turn.Late actor tag reading limit) = fault.LateAir platform actor tag reading limit row

@@ -32,7 +32,7 @@ use Rattle.pt_words.specs.declared.orders.ClockChoice.TheVariants.{Paced}
 use Rattle.pt_run.specs.declared.fault.Fault.{Fault}
 use Rattle.pt_run.specs.declared.fault.Fault.TheVariants as fault
 use Rattle.pt_words.specs.declared.orders.Command.TheVariants.{Run}
-use Rattle.pt_run.specs.Causes.{Writing}
+use Rattle.pt_io.specs.Calls.{Writing}
 use Rattle.pt_words.specs.Grammar.{Order, over}
 use Rattle.pt_run.specs.Written.{has_run, stop_of}
 

@@ -10,20 +10,19 @@ use Rattle.pt_semantics.specs.History.{LegalOnTime}
 use Rattle.pt_semantics.specs.Lists.{Each, IsIn}
 use Rattle.pt_semantics.specs.Platform.{opened}
 use Rattle.pt_semantics.specs.Tables.{tables_text}
-use Rattle.pt_schedule.specs.Schedule.{AreAllClaimed, AreClaimedAsMeant, AreMissedAsMeant, IsOnSchedule, SendsWithinSlack}
+use Rattle.pt_paced_laws.specs.Schedule.{AreAllClaimed, AreClaimedAsMeant, AreMissedAsMeant, IsOnSchedule, SendsWithinSlack}
 use Rattle.pt_causality.specs.Ranked.{level_of}
 use Rattle.pt_offsets.specs.Plans.{Parts}
 use Rattle.pt_turn.specs.declared.fault.TurnFault.{TurnFault}
 use Rattle.pt_turn.specs.All.{histories_of}
 use Rattle.pt_turn.specs.Platforms.{PlatformView, state_at}
-use Rattle.pt_rounds.specs.HaveRun.{InMeaning, IsLongOn}
-use Rattle.pt_sensors.specs.Asked.{Contents, Reading}
+use Rattle.pt_rounds.specs.Outcome.{InMeaning, IsLongOn}
+use Rattle.pt_io.specs.Calls.{Contents, Reading, Writing}
 use Rattle.pt_words.specs.declared.orders.ClockChoice.TheVariants.{Paced}
-use Rattle.pt_air.specs.declared.air.Air.{Air}
+use Rattle.pt_types.specs.declared.air.Air.{Air}
 use Rattle.pt_air.specs.AirOf.{air_of}
 use Rattle.pt_run.specs.declared.fault.Fault.{Fault}
 use Rattle.pt_words.specs.declared.orders.Command.TheVariants.{Run}
-use Rattle.pt_run.specs.Causes.{Writing}
 use Rattle.pt_run.specs.Complete.{CanRun, StatusIsMeant}
 use Rattle.pt_run.specs.Due.{Answer, IsDue}
 use Rattle.pt_run.specs.Readings.{EachOf}
@@ -46,27 +45,27 @@ pub record DoAsPaced (plan : Parts) (rows : ℕ → List Row) (platforms : List 
   pub all_claimed : stop ≡ None → InMeaning plan.graph rows (λ xs. AreAllClaimed plan.graph xs (histories_of platforms))
   pub missed_as_meant : stop ≡ None → InMeaning plan.graph rows (λ xs. AreMissedAsMeant plan.graph xs (histories_of platforms))
   -- the meaning has more firings of units on that platform than it may claim; or, without one, on no platform
-  pub long : InMeaning plan.graph rows (λ xs. IsLongOn plan.graph xs (option_map (λ (f : ℕ × TurnFault). f.0) stop))
+  pub long : InMeaning plan.graph rows (λ xs. IsLongOn plan.graph xs stop)
 
 -- a replay does so if no row of its recording breaks a stated bound
 abbrev pub ReplaysInBoundsDoAsPaced : Type 0
-ReplaysInBoundsDoAsPaced = (tells : Contents) (air : List ℕ) (log : Bool) (outcome : Option Fault) (left : Leaves) (w : Writing) (plan : Parts) (rows : ℕ → List Row) →
-    (on : OnAir tells air (LeavesReplay log outcome left w) plan rows) → on.recorded.breach ≡ None → DoAsPaced plan rows left.platforms (stop_of_replay outcome)
+ReplaysInBoundsDoAsPaced = (contents : Contents) (air : List ℕ) (log : Bool) (outcome : Option Fault) (left : Leaves) (w : Writing) (plan : Parts) (rows : ℕ → List Row) →
+    (on : OnAir contents air (LeavesReplay log outcome left w) plan rows) → on.recorded.breach ≡ None → DoAsPaced plan rows left.platforms (stop_of_replay outcome)
 
 -- the files are known and a replay within the bounds can run: these firings are the meaning, and no row of the recording breaks a
 -- stated bound
-pub record CanReplay (tells : Contents) (blocks : List Named) (name air : List ℕ) (g : Graph) (firings : List ActorFiring) : Type 0 where
-  pub runs : CanRun tells blocks name g firings
+pub record CanReplay (contents : Contents) (blocks : List Named) (name air : List ℕ) (g : Graph) (firings : List ActorFiring) : Type 0 where
+  pub runs : CanRun contents blocks name g firings
   pub bytes : List ℕ
-  pub told : tells air ≡ Some bytes
+  pub reported : contents air ≡ Some bytes
   pub recorded : Air
   pub says : air_of g bytes ≡ Ok recorded
   pub in_bounds : recorded.breach ≡ None
 
 -- such a replay ends as the meaning says, as a paced run does, if neither the source's nor the sink's count of faults rose
 abbrev pub IsCompleteInBounds : ℕ → Option Order → Contents → List Named → Reading → Writing → Type 0
-IsCompleteInBounds status order tells blocks r w = (workers : ℕ) (log : Bool) (name air : List ℕ) (g : Graph) (firings : List ActorFiring) →
-    order ≡ Some (replay name air workers log) → CanReplay tells blocks name air g firings → (Rose r.before r.now → ⊥) → (Rose w.before w.now → ⊥) → StatusIsMeant status g firings
+IsCompleteInBounds status order contents blocks r w = (workers : ℕ) (log : Bool) (name air : List ℕ) (g : Graph) (firings : List ActorFiring) →
+    order ≡ Some (replay name air workers log) → CanReplay contents blocks name air g firings → (Rose r.before r.now → ⊥) → (Rose w.before w.now → ⊥) → StatusIsMeant status g firings
 
 -- a replay and a run of this graph each write the tables of these firings, with the log if it is asked for, and miss the same
 pub record WriteAlike (g : Graph) (firings : List ActorFiring) (log logged : Bool) (a b : Answer) : Type 0 where
@@ -76,5 +75,5 @@ pub record WriteAlike (g : Graph) (firings : List ActorFiring) (log logged : Boo
 
 -- so do a replay within the bounds and a paced run over the same files, if both end without a fault
 abbrev pub ReplaysInBoundsAgreeWithRuns : Type 0
-ReplaysInBoundsAgreeWithRuns = (tells : Contents) (blocks : List Named) (name air : List ℕ) (g : Graph) (firings : List ActorFiring) (workers others : ℕ) (log logged : Bool) (a b : Answer) → CanReplay tells blocks name air g firings → a.fault ≡ None → b.fault ≡ None →
-    IsDue (Some (replay name air workers log)) tells blocks a → IsDue (Some (over (Run others Paced logged) name)) tells blocks b → WriteAlike g firings log logged a b
+ReplaysInBoundsAgreeWithRuns = (contents : Contents) (blocks : List Named) (name air : List ℕ) (g : Graph) (firings : List ActorFiring) (workers others : ℕ) (log logged : Bool) (a b : Answer) → CanReplay contents blocks name air g firings → a.fault ≡ None → b.fault ≡ None →
+    IsDue (Some (replay name air workers log)) contents blocks a → IsDue (Some (over (Run others Paced logged) name)) contents blocks b → WriteAlike g firings log logged a b

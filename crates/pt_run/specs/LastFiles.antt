@@ -1,11 +1,12 @@
 -- What an audit or a replay reads after the graph file: the rows of all sensors, and then one last file.
 use Rattle.std.specs.Prelude.{◌≡◌, ◌+◌, ℕ, List, [], IfSome, take}
 use Rattle.pt_types.specs.declared.graph.Graph.{Graph}
+use Rattle.pt_types.specs.Limits.{most_log_bytes}
 use Rattle.pt_semantics.specs.Rows.{FitRows}
 use Rattle.pt_offsets.specs.Plans.{IsAdmitted, Parts}
 use Rattle.pt_sensors.specs.declared.recorded_fault.LateRows.TheVariants.{Refused}
 use Rattle.pt_sensors.specs.declared.sensor_rows.SensorRows.{SensorRows}
-use Rattle.pt_sensors.specs.Asked.{Contents}
+use Rattle.pt_io.specs.Calls.{Contents}
 use Rattle.pt_sensors.specs.Listed.{rows_for}
 use Rattle.pt_sensors.specs.Places.{StandInPlace, of_run}
 use Rattle.pt_sensors.specs.Recorded.{AllPass, AreRows}
@@ -18,7 +19,7 @@ use Rattle.pt_run.specs.Due.{AfterAdmission, Answer, RefusedWith}
 
 -- the most bytes that the last file may have
 abbrev pub most_of : LastFile → ℕ
-most_of Log = 67108864
+most_of Log = most_log_bytes
 most_of Air = 8388608
 
 -- the fault if it can't be read
@@ -27,17 +28,17 @@ unread_of Log = fault.ReadLog
 unread_of Air = fault.ReadAir
 
 -- the plan is admitted, and these are the rows of its sensors, none of which is late
-pub record HasAllRows (tells : Contents) (plan : Parts) (entries : List SensorRows) : Type 0 where
+pub record HasAllRows (contents : Contents) (plan : Parts) (entries : List SensorRows) : Type 0 where
   pub admitted : IsAdmitted plan
-  pub sensors : AreRows tells plan.graph (rows_for entries)
+  pub sensors : AreRows contents plan.graph (rows_for entries)
   pub in_time : AllPass Refused plan.graph (rows_for entries)
   pub places : StandInPlace plan.graph entries
   pub fit : FitRows plan.graph (of_run plan.graph (rows_for entries))
 
 -- these bytes begin the content of the file with this name, if that is known: they are all of it, or one more than the file may have
 abbrev pub HasFetched : LastFile → Contents → List ℕ → List ℕ → Type 0
-HasFetched last tells name bytes = IfSome (tells name) (λ content. bytes ≡ take (most_of last + 1) content)
+HasFetched last contents name bytes = IfSome (contents name) (λ content. bytes ≡ take (most_of last + 1) content)
 
 -- a call over this graph is refused up to the last file: by its admission, or since the last file can't be read
 abbrev pub IsUnread : LastFile → List ℕ → Contents → Graph → Answer → Type 0
-IsUnread last name tells g a = AfterAdmission tells g [] a (λ plan rows. RefusedWith (unread_of last) a × LastFails g [] name a.read)
+IsUnread last name contents g a = AfterAdmission contents g [] a (λ plan rows. RefusedWith (unread_of last) a × LastFails g [] name a.read)

@@ -12,20 +12,19 @@ use Rattle.pt_causality.specs.Ranked.{rank_of}
 use Rattle.pt_offsets.specs.Plans.{Parts}
 use Rattle.pt_turn.specs.Platforms.{PlatformView}
 use Rattle.pt_monitors.specs.Platforms.{missed_by}
-use Rattle.pt_sensors.specs.Asked.{Contents}
+use Rattle.pt_io.specs.Calls.{Contents, Writing}
 use Rattle.pt_run.specs.Readings.{Clocking, ReadBy}
 use Rattle.pt_run.specs.Runs.{AreHeldIf, IsKept, RunOver, log_if}
 use Rattle.pt_run.specs.declared.fault.Fault.{Fault}
 use Rattle.pt_run.specs.declared.fault.Fault.TheVariants as fault
-use Rattle.pt_run.specs.Causes.{Writing}
 use Rattle.pt_run.specs.Written.{Leaves, stop_of}
 
 -- the graph file defines an admitted graph, its sensors' files have rows, none of which is late, and a fact holds of the plan
 -- of the graph and of the rows up to its horizon
-pub record RunWith (tells : Contents) (blocks : List Named) (name : List ℕ) (Fact : Parts → (ℕ → List Row) → Type 0) : Type 0 where
+pub record RunWith (contents : Contents) (blocks : List Named) (name : List ℕ) (Fact : Parts → (ℕ → List Row) → Type 0) : Type 0 where
   pub plan : Parts
-  pub file : IfSome (tells name) (λ bytes. graph_of blocks bytes ≡ Ok plan.graph)
-  pub over : RunOver tells plan (Fact plan)
+  pub file : IfSome (contents name) (λ bytes. graph_of blocks bytes ≡ Ok plan.graph)
+  pub over : RunOver contents plan (Fact plan)
 
 -- what was put is the tables of the meaning and, if asked for, the log of the platforms, the numbers in whose turns 64 bits hold
 pub record PutsMeaning (plan : Parts) (rows : ℕ → List Row) (log : Bool) (platforms : List PlatformView) (Put : List ℕ → Type 0) : Type 0 where

@@ -7,12 +7,11 @@ pub mod Complete
 pub mod Texts
 pub mod Asks
 pub mod Notes
-pub mod Telling
+pub mod Reporting
 pub mod Making
 pub mod Migrating
 pub mod Auditing
 pub mod Replaying
-pub mod Flown
 pub mod InBounds
 pub mod SlackRuns
 pub mod LawfulRuns
@@ -25,7 +24,7 @@ pub mod CallsAgreeing
 pub mod ReplaysAgreeing
 pub mod Runs
 pub mod Readings
-pub mod Went
+pub mod Workers
 pub mod Clocks
 pub mod Due
 pub mod LastFiles

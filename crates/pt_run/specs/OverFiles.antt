@@ -9,11 +9,10 @@ use Rattle.pt_offsets.specs.Plans.{Parts}
 use Rattle.pt_turn.specs.declared.fault.TurnFault.{TurnFault}
 use Rattle.pt_turn.specs.Platforms.{PlatformView, state_at}
 use Rattle.pt_sensors.specs.declared.recorded_fault.LateRows.TheVariants.{Refused}
-use Rattle.pt_sensors.specs.Asked.{Contents}
+use Rattle.pt_io.specs.Calls.{Contents, Writing}
 use Rattle.pt_sensors.specs.Places.{of_run}
 use Rattle.pt_sensors.specs.Recorded.{AllPass, AreRows, SensorLate}
 use Rattle.pt_run.specs.declared.fault.Fault.{Fault}
-use Rattle.pt_run.specs.Causes.{Writing}
 use Rattle.pt_run.specs.Headline.{AtEnd, Inputs, IsHeadline}
 use Rattle.pt_run.specs.Readings.{Clocking, ReadBy}
 use Rattle.pt_words.specs.Grammar.{Order}
@@ -21,10 +20,10 @@ use Rattle.pt_run.specs.Written.{Leaves, clocking}
 
 -- the graph that the bytes of a file define, and the rows that the sensors' files have; where a source doesn't report a file's bytes, any
 abbrev pub inputs_of : Contents → List Named → Inputs
-inputs_of tells blocks = record {
-  graph = λ name g. IfSome (tells name) (λ bytes. graph_of blocks bytes ≡ Ok g);
-  rows = λ g rows. (all : ℕ → List Row) × AreRows tells g all × AllPass Refused g all × (rows ≡ of_run g all);
-  late_row = SensorLate tells;
+inputs_of contents blocks = record {
+  graph = λ name g. IfSome (contents name) (λ bytes. graph_of blocks bytes ≡ Ok g);
+  rows = λ g rows. (all : ℕ → List Row) × AreRows contents g all × AllPass Refused g all × (rows ≡ of_run g all);
+  late_row = SensorLate contents;
 }
 
 -- a platform at the end of a run, from all that contracts see of it
@@ -32,7 +31,7 @@ abbrev pub at_end : PlatformView → AtEnd
 at_end v = record { number = v.number; turns = v.turns; state = state_at v; fault = v.fault }
 
 -- the readings that these platforms went by, for a plan of the graph with these levels
-pub record WentByReadings (c : Clocking) (platforms : List PlatformView) (g : Graph) (level : ℕ → ℕ) (rows : ℕ → List Row) (stop : Option (ℕ × TurnFault)) : Type 0 where
+pub record HasReadings (c : Clocking) (platforms : List PlatformView) (g : Graph) (level : ℕ → ℕ) (rows : ℕ → List Row) (stop : Option (ℕ × TurnFault)) : Type 0 where
   pub plan : Parts
   pub graph : plan.graph ≡ g
   pub levels : level_of plan.ranks ≡ level
@@ -40,5 +39,5 @@ pub record WentByReadings (c : Clocking) (platforms : List PlatformView) (g : Gr
 
 -- the headline of a call that left this
 abbrev pub HasHeadline : Option Fault → Leaves → Option Order → Contents → List Named → Writing → Type 0
-HasHeadline outcome left order tells blocks w =
-    IsHeadline (inputs_of tells blocks) (λ workers clock. WentByReadings (clocking workers clock left) left.platforms) order outcome (map at_end left.platforms) left.misses w
+HasHeadline outcome left order contents blocks w =
+    IsHeadline (inputs_of contents blocks) (λ workers clock. HasReadings (clocking workers clock left) left.platforms) order outcome (map at_end left.platforms) left.misses w

@@ -1,20 +1,20 @@
 -- The clocks of a run, and the readings that its platforms went by.
 use Rattle.std.specs.Prelude.{◌≡◌, ◌<◌, ◌≤◌, ◌^◌, [], ℕ, List, length, Option, Some, slice_get}
-use Rattle.pt_io.specs.Told.{AreAsAhead, ClockView, HandedOut, first_readings, step_reading}
+use Rattle.pt_io.specs.Clocks.{AreAsAhead, ClockView, HandedOut, first_readings, step_reading}
 use Rattle.pt_types.specs.declared.rows.Row.{Row}
 use Rattle.pt_semantics.specs.FixedOrder.{AreInTurn}
 use Rattle.pt_semantics.specs.History.{LegalOnTime}
 use Rattle.pt_semantics.specs.Lists.{Each}
 use Rattle.pt_semantics.specs.Platform.{opened}
 use Rattle.pt_semantics.specs.Readings.{IsReadBy}
-use Rattle.pt_schedule.specs.Schedule.{IsOnSchedule}
+use Rattle.pt_paced_laws.specs.Schedule.{IsOnSchedule}
 use Rattle.pt_causality.specs.Ranked.{level_of}
 use Rattle.pt_offsets.specs.Plans.{Parts}
 use Rattle.pt_turn.specs.declared.fault.TurnFault.{TurnFault}
 use Rattle.pt_turn.specs.Platforms.{PlatformView, state_at}
 use Rattle.pt_turn.specs.All.{histories_of}
-use Rattle.pt_alone.specs.HasGone.{LastVisitEnds}
-use Rattle.pt_rounds.specs.HaveRun.{IsAfter}
+use Rattle.pt_fixed_order.specs.Outcome.{LastVisitEnds}
+use Rattle.pt_rounds.specs.Outcome.{IsAfter}
 use Rattle.pt_words.specs.declared.orders.ClockChoice.{ClockChoice}
 use Rattle.pt_words.specs.declared.orders.ClockChoice.TheVariants.{Machine, Paced, Step}
 
@@ -32,7 +32,7 @@ read_by _ views = []
 
 -- a clock of steps that handed out nothing
 abbrev pub step_clock : ℕ → ℕ → ClockView
-step_clock start step = record { told = Some []; ahead = Some (step_reading start step) }
+step_clock start step = record { readings = Some []; ahead = Some (step_reading start step) }
 
 -- a fact holds of each of these platforms and its number
 abbrev pub EachOf : List PlatformView → (ℕ → PlatformView → Type 0) → Type 0
@@ -61,7 +61,7 @@ pub record ReadBySteps (start step : ℕ) (plan : Parts) (rows : ℕ → List Ro
 
 -- a clock handed out these readings, as far as it shows what it handed out, and they are those fixed ahead, if any are
 abbrev pub HandsOut : Option ClockView → Option ClockView → List ℕ → Type 0
-HandsOut (Some before) (Some now) readings = HandedOut before.told now.told readings × AreAsAhead before.ahead before.told now.told readings
+HandsOut (Some before) (Some now) readings = HandedOut before.readings now.readings readings × AreAsAhead before.ahead before.readings now.readings readings
 HandsOut _ _ readings = ⊥
 
 -- clocks handed in: each history is read by what the clock of its platform handed out, if there is one worker, the platforms are

@@ -1,30 +1,37 @@
 -- How `replay` ends.
-use Rattle.std.specs.Prelude.{◌≡◌, ◌≢◌, ◌↔◌, ℕ, Bool, true, false, List, [], Option, Some, None, Ok, IfSome, flat_map}
+use Rattle.std.specs.Prelude.{◌≡◌, ◌≢◌, ◌↔◌, ℕ, Bool, true, false, List, [], Option, Some, None, Ok, IfSome, flat_map, length}
 use Rattle.pt_io.specs.Causes.{Appends, AppendsPart}
 use Rattle.pt_types.specs.declared.rows.Row.{Row}
 use Rattle.pt_blocks.specs.declared.blocks.Named.{Named}
 use Rattle.pt_causality.specs.Ranked.{level_of}
-use Rattle.pt_offsets.specs.Plans.{Parts}
+use Rattle.pt_offsets.specs.Plans.{IsAdmitted, Parts}
+use Rattle.pt_semantics.specs.Rows.{FitRows}
+use Rattle.pt_sensors.specs.declared.sensor_rows.SensorRows.{SensorRows}
+use Rattle.pt_sensors.specs.declared.recorded_fault.LateRows.TheVariants.{Refused}
+use Rattle.pt_sensors.specs.Listed.{rows_for}
+use Rattle.pt_sensors.specs.Places.{StandInPlace, of_run}
+use Rattle.pt_sensors.specs.Recorded.{AllPass, AreRows}
+use Rattle.pt_run.specs.declared.outputs.Outputs.{Outputs}
+use Rattle.pt_run.specs.Runs.{AreOutputs, RunOver}
 use Rattle.pt_turn.specs.declared.fault.TurnFault.{TurnFault}
 use Rattle.pt_turn.specs.declared.fault.TurnFault.TheVariants as turn
 use Rattle.pt_monitors.specs.Platforms.{missed_by}
-use Rattle.pt_sensors.specs.Asked.{Contents}
-use Rattle.pt_air.specs.declared.air.Air.{Air}
+use Rattle.pt_io.specs.Calls.{Contents, Writing}
+use Rattle.pt_types.specs.declared.air.Air.{Air}
 use Rattle.pt_air.specs.AirOf.{air_of}
-use Rattle.pt_air.specs.Bounds.{KeepsBounds}
-use Rattle.pt_aired.specs.HaveFlown.{HaveFlown}
+use Rattle.pt_semantics.specs.RecordedTimes.{KeepsBounds}
+use Rattle.pt_replay.specs.Outcome.{IsOutcome as IsReplayOutcome}
 use Rattle.pt_run.specs.declared.fault.Fault.{Fault}
 use Rattle.pt_run.specs.declared.fault.Fault.TheVariants as fault
-use Rattle.pt_run.specs.Causes.{Writing}
 use Rattle.pt_run.specs.Leaving.{PutsMeaning, RunWith}
 use Rattle.pt_words.specs.Grammar.{Order, replay}
 use Rattle.pt_run.specs.Written.{HasNothing, Leaves}
 
 -- the file `air`, if its content is known, says these lags and transits of the plan's graph, and a fact holds of the plan, of the
 -- rows and of them
-pub record OnAir (tells : Contents) (air : List ℕ) (Fact : Parts → (ℕ → List Row) → Air → Type 0) (plan : Parts) (rows : ℕ → List Row) : Type 0 where
+pub record OnAir (contents : Contents) (air : List ℕ) (Fact : Parts → (ℕ → List Row) → Air → Type 0) (plan : Parts) (rows : ℕ → List Row) : Type 0 where
   pub recorded : Air
-  pub file : IfSome (tells air) (λ bytes. air_of plan.graph bytes ≡ Ok recorded)
+  pub file : IfSome (contents air) (λ bytes. air_of plan.graph bytes ≡ Ok recorded)
   -- no row breaks a stated bound exactly if the recorded times keep to the bounds
   pub bounds : (recorded.breach ≡ None) ↔ KeepsBounds plan.graph recorded
   pub fact : Fact plan rows recorded
@@ -49,10 +56,10 @@ NamesBreach (Some (fault.LateAir platform actor tag reading limit row)) recorded
 NamesBreach _ recorded = Unit {0}
 
 -- what a replay of this plan over these rows leaves and writes. Its platforms are those of the plan after a replayed run over these
--- rows, in which messages take their recorded transits and clocks lag as recorded (`HaveFlown`): their histories are legal, they took
+-- rows, in which messages take their recorded transits and clocks lag as recorded (`IsReplayOutcome`): their histories are legal, they took
 -- only what was sent, and they are finished and took all of it unless one stopped the replay, as its history shows
 pub record LeavesReplay (log : Bool) (outcome : Option Fault) (left : Leaves) (w : Writing) (plan : Parts) (rows : ℕ → List Row) (recorded : Air) : Type 0 where
-  pub flown : HaveFlown plan (level_of plan.ranks) rows recorded left.platforms (stop_of_replay outcome)
+  pub replayed : IsReplayOutcome plan (level_of plan.ranks) rows recorded left.platforms (stop_of_replay outcome)
   -- all was written, and the misses are those of the recorded turns; or a write failed after a prefix
   pub written : outcome ≡ None → PutsMeaning plan rows log left.platforms (Appends w.written_before w.written_now)
   pub misses : outcome ≡ None → left.misses ≡ flat_map missed_by left.platforms
@@ -63,9 +70,30 @@ pub record LeavesReplay (log : Bool) (outcome : Option Fault) (left : Leaves) (w
   pub breach : NamesBreach outcome recorded
 
 -- what holds of each replay that the words ask for: of what it leaves, if it ran; else it leaves nothing and nothing is written
-pub record ReplayHeadline (outcome : Option Fault) (left : Leaves) (log : Bool) (tells : Contents) (blocks : List Named) (name air : List ℕ) (w : Writing) : Type 0 where
-  pub run : has_replayed outcome ≡ true → RunWith tells blocks name (OnAir tells air (LeavesReplay log outcome left w))
+pub record ReplayHeadline (outcome : Option Fault) (left : Leaves) (log : Bool) (contents : Contents) (blocks : List Named) (name air : List ℕ) (w : Writing) : Type 0 where
+  pub run : has_replayed outcome ≡ true → RunWith contents blocks name (OnAir contents air (LeavesReplay log outcome left w))
   pub nothing_else : has_replayed outcome ≡ false → HasNothing left × (w.written_now ≡ w.written_before)
 
 abbrev pub IsReplayHeadline : Option Fault → Leaves → Option Order → Contents → List Named → Writing → Type 0
-IsReplayHeadline outcome left order tells blocks w = (workers : ℕ) (log : Bool) (name air : List ℕ) → order ≡ Some (replay name air workers log) → ReplayHeadline outcome left log tells blocks name air w
+IsReplayHeadline outcome left order contents blocks w = (workers : ℕ) (log : Bool) (name air : List ℕ) → order ≡ Some (replay name air workers log) → ReplayHeadline outcome left log contents blocks name air w
+
+-- A replay of a plan: what is read for it, and how it finishes.
+
+-- the rows of a plan's sensors, none of which is late, and the lags and transits that the file `air` says
+pub record IsRecorded (contents : Contents) (air : List ℕ) (plan : Parts) (entries : List SensorRows) (recorded : Air) : Type 0 where
+  pub admitted : IsAdmitted plan
+  pub sensors : AreRows contents plan.graph (rows_for entries)
+  pub in_time : AllPass Refused plan.graph (rows_for entries)
+  pub places : StandInPlace plan.graph entries
+  pub fit : FitRows plan.graph (of_run plan.graph (rows_for entries))
+  pub file : IfSome (contents air) (λ bytes. air_of plan.graph bytes ≡ Ok recorded)
+  pub transits : length recorded.transits ≡ length plan.graph.links
+  pub bounds : (recorded.breach ≡ None) ↔ KeepsBounds plan.graph recorded
+
+-- a replay finished with these outputs
+abbrev pub FinishedReplay : Bool → Outputs → Parts → (ℕ → List Row) → Air → Type 0
+FinishedReplay log ran plan rows recorded = IsReplayOutcome plan (level_of plan.ranks) rows recorded ran.platforms.items None × AreOutputs plan log ran.platforms.items ran
+
+-- the same over the files
+abbrev pub HasReplayed : Contents → List ℕ → Parts → Bool → Outputs → Type 0
+HasReplayed contents air plan log ran = RunOver contents plan (OnAir contents air (FinishedReplay log ran) plan)

@@ -4,29 +4,29 @@ use Rattle.pt_types.specs.declared.graph.Graph.{Graph}
 use Rattle.pt_types.specs.declared.kind.Kind.TheVariants.{Sensor}
 use Rattle.pt_history.specs.declared.miss.Miss.{Miss}
 use Rattle.pt_types.specs.Lookups.{kind_of}
-use Rattle.pt_schedule.specs.FixedOrderTheorems.{count_readings}
+use Rattle.pt_paced_laws.specs.FixedOrderTheorems.{count_readings}
 use Rattle.pt_offsets.specs.Plans.{Parts}
 use Rattle.pt_turn.specs.Platforms.{PlatformView}
 use Rattle.pt_turn.specs.All.{histories_of}
-use Rattle.pt_sensors.specs.Asked.{Contents}
+use Rattle.pt_io.specs.Calls.{Contents}
 use Rattle.pt_turn.specs.declared.fault.TurnFault.{TurnFault}
 use Rattle.pt_words.specs.declared.orders.ClockChoice.TheVariants.{Paced, Step}
 use Rattle.pt_run.specs.Readings.{Clocking, EachOf}
-use Rattle.pt_run.specs.Runs.{HasRun, IsFinishedRun}
+use Rattle.pt_run.specs.Runs.{IsOutcomeOver, IsFinishedRun}
 
 -- the content of each sensor's file is known
-abbrev pub TellsSensors : Contents → Graph → Type 0
-TellsSensors tells g = (a : ℕ) (file : List ℕ) (bound : ℕ) → kind_of g a ≡ Sensor file bound → (bytes : List ℕ) × (tells file ≡ Some bytes)
+abbrev pub ReportsSensors : Contents → Graph → Type 0
+ReportsSensors contents g = (a : ℕ) (file : List ℕ) (bound : ℕ) → kind_of g a ≡ Sensor file bound → (bytes : List ℕ) × (contents file ≡ Some bytes)
 
 -- paced runs leave the same histories, and both finish or both stop at the same platform with the same fault
 abbrev pub RunsAgree : Type 0
-RunsAgree = (tells : Contents) (c d : Clocking) (plan other : Parts) (platforms others : List PlatformView) (fault stop : Option (ℕ × TurnFault)) → c.choice ≡ Paced → d.choice ≡ Paced → plan.graph ≡ other.graph → TellsSensors tells plan.graph →
-    HasRun tells c plan platforms fault → HasRun tells d other others stop → ((i : ℕ) → histories_of platforms i ≡ histories_of others i) × (fault ≡ stop)
+RunsAgree = (contents : Contents) (c d : Clocking) (plan other : Parts) (platforms others : List PlatformView) (fault stop : Option (ℕ × TurnFault)) → c.choice ≡ Paced → d.choice ≡ Paced → plan.graph ≡ other.graph → ReportsSensors contents plan.graph →
+    IsOutcomeOver contents c plan platforms fault → IsOutcomeOver contents d other others stop → ((i : ℕ) → histories_of platforms i ≡ histories_of others i) × (fault ≡ stop)
 
 -- if both finish, they write the same text, the log included, and have the same misses
 abbrev pub FinishedRunsAgree : Type 0
-FinishedRunsAgree = (tells : Contents) (c d : Clocking) (plan other : Parts) (log : Bool) (platforms others : List PlatformView) (misses missed : List Miss) (text written : List ℕ) → c.choice ≡ Paced → d.choice ≡ Paced → plan.graph ≡ other.graph → TellsSensors tells plan.graph →
-    IsFinishedRun tells c plan log platforms misses text → IsFinishedRun tells d other log others missed written → (text ≡ written) × (misses ≡ missed)
+FinishedRunsAgree = (contents : Contents) (c d : Clocking) (plan other : Parts) (log : Bool) (platforms others : List PlatformView) (misses missed : List Miss) (text written : List ℕ) → c.choice ≡ Paced → d.choice ≡ Paced → plan.graph ≡ other.graph → ReportsSensors contents plan.graph →
+    IsFinishedRun contents c plan log platforms misses text → IsFinishedRun contents d other log others missed written → (text ≡ written) × (misses ≡ missed)
 
 -- each of these platforms went by fewer than 2 ^ 64 readings
 abbrev pub AreFewReadings : List PlatformView → Type 0
@@ -36,7 +36,7 @@ AreFewReadings platforms = EachOf platforms (λ i v. count_readings v.turns < 2 
 -- included, and both finish or both stop at the same platform with the same fault; and if both finish, they write the same
 -- text, the log included, and have the same misses
 abbrev pub StepRunsAgree : Type 0
-StepRunsAgree = (tells : Contents) (start step : ℕ) (c d : Clocking) (plan other : Parts) (platforms others : List PlatformView) → c.choice ≡ Step start step → d.choice ≡ Step start step → plan.graph ≡ other.graph → TellsSensors tells plan.graph →
+StepRunsAgree = (contents : Contents) (start step : ℕ) (c d : Clocking) (plan other : Parts) (platforms others : List PlatformView) → c.choice ≡ Step start step → d.choice ≡ Step start step → plan.graph ≡ other.graph → ReportsSensors contents plan.graph →
     AreFewReadings platforms → AreFewReadings others →
-    ((fault stop : Option (ℕ × TurnFault)) → HasRun tells c plan platforms fault → HasRun tells d other others stop → ((i : ℕ) → histories_of platforms i ≡ histories_of others i) × (fault ≡ stop))
-    × ((log : Bool) (misses missed : List Miss) (text written : List ℕ) → IsFinishedRun tells c plan log platforms misses text → IsFinishedRun tells d other log others missed written → (text ≡ written) × (misses ≡ missed))
+    ((fault stop : Option (ℕ × TurnFault)) → IsOutcomeOver contents c plan platforms fault → IsOutcomeOver contents d other others stop → ((i : ℕ) → histories_of platforms i ≡ histories_of others i) × (fault ≡ stop))
+    × ((log : Bool) (misses missed : List Miss) (text written : List ℕ) → IsFinishedRun contents c plan log platforms misses text → IsFinishedRun contents d other log others missed written → (text ≡ written) × (misses ≡ missed))

@@ -15,19 +15,18 @@ use Rattle.pt_turn.specs.Platforms.{PlatformView}
 use Rattle.pt_offsets.specs.Plans.{Parts}
 use Rattle.pt_offsets.specs.Margins.{HasActorOffset, HasMargin}
 use Rattle.pt_tables.specs.Margins.{margins_text}
-use Rattle.pt_sensors.specs.Asked.{Contents}
+use Rattle.pt_io.specs.Calls.{Contents}
 use Rattle.pt_sensors.specs.Places.{of_run}
-use Rattle.pt_io.specs.Told.{ClockView}
+use Rattle.pt_io.specs.Clocks.{ClockView}
 use Rattle.pt_words.specs.declared.orders.ClockChoice.{ClockChoice}
 use Rattle.pt_run.specs.Readings.{Clocking}
 use Rattle.pt_run.specs.Runs.{IsFinishedRun}
 use Rattle.pt_run.specs.declared.fault.Fault.{Fault}
 use Rattle.pt_run.specs.declared.fault.Fault.TheVariants as fault
-use Rattle.pt_types.specs.Limits.{most_claims}
 
 -- the graph file with this name, if its content is known, defines a graph, and a fact holds of that graph
 abbrev pub GraphWith : Contents → List Named → List ℕ → (Graph → Type 0) → Type 0
-GraphWith tells blocks name Fact = (g : Graph) × IfSome (tells name) (λ bytes. graph_of blocks bytes ≡ Ok g) × Fact g
+GraphWith contents blocks name Fact = (g : Graph) × IfSome (contents name) (λ bytes. graph_of blocks bytes ≡ Ok g) × Fact g
 
 -- what a call leaves besides what it wrote: the misses and the platforms of a run and, for a run by the machine's clock, what
 -- the clocks handed in showed before it and after it
@@ -82,15 +81,15 @@ pub record IsTables (g : Graph) (rows : ℕ → List Row) (Fact : List ActorFiri
   pub fact : Fact firings
   pub tables : text ≡ tables_text g firings
 
--- there are at most 200,000 firings times the number of platforms
+-- there are at most the graph's number of claims times the number of platforms firings
 abbrev pub FitOnAll : Graph → List ActorFiring → Type 0
-FitOnAll g firings = length firings ≤ most_claims * length g.platforms
+FitOnAll g firings = length firings ≤ g.claims * length g.platforms
 
 -- what a run of this graph must write and leave
-pub record IsRun (tells : Contents) (g : Graph) (workers : ℕ) (clock : ClockChoice) (log : Bool) (left : Leaves) (text : List ℕ) : Type 0 where
+pub record IsRun (contents : Contents) (g : Graph) (workers : ℕ) (clock : ClockChoice) (log : Bool) (left : Leaves) (text : List ℕ) : Type 0 where
   pub plan : Parts
   pub graph : plan.graph ≡ g
-  pub finished : IsFinishedRun tells (clocking workers clock left) plan log left.platforms left.misses text
+  pub finished : IsFinishedRun contents (clocking workers clock left) plan log left.platforms left.misses text
 
 -- what `check` must write for this graph: each sender can send in time, and the text has the offset and margin of each actor
 pub record IsChecked (g : Graph) (text : List ℕ) : Type 0 where

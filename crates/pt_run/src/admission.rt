@@ -1,19 +1,33 @@
-//! Reading the graph file.
+//! What comes before a run: the graph file is read, the graph is planned, and its platforms are opened with the rows of its sensors.
 
-ghost use Rattle.std.specs.Prelude.{◌≡◌, ◌≤◌, IfOk, IfErr, IfSome, Ok, Some, [], ◌∷◌};
+ghost use Rattle.std.specs.Prelude.{◌≡◌, ◌≤◌, ◌<◌, IfOk, IfErr, IfSome, Ok, Some, [], ◌∷◌, length};
+ghost use Rattle.std.specs.Arc.{arc_value};
+ghost use Rattle.pt_io.specs.Calls.{reading, writing};
 ghost use Rattle.pt_types.specs.Lawful.{IsLawful};
 ghost use Rattle.pt_graph.specs.GraphOf.{graph_of};
+ghost use Rattle.pt_offsets.specs.Plans.{IsAdmitted};
 ghost use Rattle.pt_sensors.specs.Asked.{Asks};
-ghost use Rattle.pt_run.specs.Asks.{AsksAlone};
-ghost use Rattle.pt_run.specs.Due.{AfterFile, RefusesAsDue};
+ghost use Rattle.pt_run.specs.Asks.{AsksAlone, AsksOver};
+ghost use Rattle.pt_run.specs.Due.{AfterCycles, AfterFile, AfterOffsets, EndsRefused, RefusesAsDue};
 ghost use Rattle.pt_run.specs.Migrating.{IsDefined};
+ghost use Rattle.pt_run.specs.Reporting.{Reports};
+ghost use Rattle.pt_run.specs.Runs.{HasOpened, LacksRows};
+ghost use Rattle.pt_run.specs.Statuses.{status_of};
+ghost use Rattle.pt_run.specs.Texts.{fault_in};
 
-use crate::fault::{Fault, fault_of_graph};
+use crate::fault::{Fault, fault_of_graph, fault_of_plan, fault_of_rows};
+use crate::notes::report;
+use crate::outcome::Ending;
 use pt_blocks::Blocks;
 use pt_graph::read_graph;
-use pt_io::{FetchFault, Source};
+use pt_io::{FetchFault, Sink, Source};
+use pt_offsets::{Plan, Unplanned, plan_of};
+use pt_sensors::{LateRows, recorded};
+use pt_tags::Memory;
+use pt_turn::{Platform, open_all};
 use pt_types::{Graph, MOST_GRAPH_BYTES};
 use std::alloc::Global;
+use std::sync::Arc;
 
 /// The graph in the file with this name.
 pub fn graph_at<S: Source>(
@@ -22,16 +36,20 @@ pub fn graph_at<S: Source>(
     name: &str,
     blocks: &Blocks,
 ) -> Result<Graph, Fault>
-    ensures graph { IfOk result (λ g. IfSome (S.tells source.old name.now) (λ bytes. graph_of blocks.now.listed.items bytes ≡ Ok g)) }
+    ensures graph { IfOk result
+        (λ g. IfSome (S.contents source.old name.now)
+        (λ bytes. graph_of blocks.now.listed.items bytes ≡ Ok g)) }
     ensures defined { IfOk result (IsDefined blocks.now.listed.items) }
     ensures lawful { IfOk result IsLawful }
     ensures refused { IfErr result (λ f. RefusesAsDue f
-        (record { asked_before = S.asked source.old; asked_now = S.asked source.new; before = S.faults source.old; now = S.faults source.new })
-        (λ a. AfterFile (S.tells source.old) blocks.now.listed.items name.now a (λ g. ⊥))) }
-    ensures keeps { S.tells source.new ≡ S.tells source.old }
+        (reading S.Source source.old source.new)
+        (λ a. AfterFile (S.contents source.old) blocks.now.listed.items name.now a (λ g. ⊥))) }
+    ensures keeps { S.contents source.new ≡ S.contents source.old }
     ensures grows { S.faults source.old ≤ S.faults source.new }
-    ensures asks { IfOk result (λ g. Asks (S.asked source.old) (S.asked source.new) (name.now ∷ [])) }
-    ensures asks_alone { IfErr result (λ f. AsksAlone (Some f) name.now (S.asked source.old) (S.asked source.new)) }
+    ensures asks { IfOk result
+        (λ g. Asks (S.asked source.old) (S.asked source.new) (name.now ∷ [])) }
+    ensures asks_alone { IfErr result
+        (λ f. AsksAlone (Some f) name.now (S.asked source.old) (S.asked source.new)) }
 {
     let bytes = match source.fetch(alloc, name, MOST_GRAPH_BYTES) {
         Ok(bytes) => bytes,
@@ -41,5 +59,62 @@ pub fn graph_at<S: Source>(
     match read_graph(alloc, bytes.as_slice(), blocks) {
         Ok(graph) => Ok(graph),
         Err(fault) => Err(fault_of_graph(fault)),
+    }
+}
+
+/// The plan of a graph; or how a run ends that has none, with its fault reported.
+pub fn planned<E: Sink>(alloc: Global, graph: Graph, notes: &mut E) -> Result<Arc<Plan>, Ending>
+    requires { IsLawful graph }
+    ensures plan { IfOk result (λ plan. (arc_value plan).graph ≡ graph) }
+    ensures admitted { IfOk result (λ plan. IsAdmitted (arc_value plan)) }
+    ensures quiet { IfOk result
+        (λ plan. (E.faults notes.new ≡ E.faults notes.old)
+        × (E.written notes.new ≡ E.written notes.old)) }
+    ensures status { IfErr result (λ o. o.status ≡ status_of o.fault o.misses) }
+    ensures refused { IfErr result
+        (λ o. EndsRefused o (λ a. AfterCycles graph a (AfterOffsets graph a ⊥))) }
+    ensures notes { IfErr result (λ o. Reports o.fault o.misses (Some graph)
+        (writing E.Sink notes.old notes.new)) }
+{
+    let plan = match plan_of(alloc, graph) {
+        Ok(plan) => plan,
+        Err(Unplanned { graph, fault }) => {
+            let fault = report(alloc, notes, fault_of_plan(fault), Some(&graph));
+            return Err(Ending::refused(alloc, fault));
+        }
+    };
+    match Arc::new(alloc, plan) {
+        Ok(plan) => Ok(plan),
+        Err(_) => {
+            let fault = report(alloc, notes, Fault::Memory, None);
+            Err(Ending::refused(alloc, fault))
+        }
+    }
+}
+
+/// The platforms of a plan, opened with the rows of its sensors' files, none of which is late.
+pub fn opened_of<S: Source>(
+    alloc: Global,
+    plan: &Arc<Plan>,
+    source: &mut S,
+) -> Result<Vec<Platform>, Fault>
+    ensures some { IfOk result (λ platforms. 0 < length platforms.items) }
+    ensures few { IfOk result (λ platforms. length platforms.items ≤ 16) }
+    ensures opened { IfOk result
+        (λ platforms. HasOpened (S.contents source.old) (arc_value plan.now) platforms.items) }
+    ensures fault { IfErr result (λ f. LacksRows f (S.contents source.old) (arc_value plan.now)
+        (reading S.Source source.old source.new)) }
+    ensures asks { AsksOver (fault_in result) [] (arc_value plan.now).graph.actors []
+        (S.asked source.old) (S.asked source.new) }
+    ensures keeps { S.contents source.new ≡ S.contents source.old }
+    ensures grows { S.faults source.old ≤ S.faults source.new }
+{
+    let entries = match recorded(alloc, source, plan.graph(), LateRows::Refused) {
+        Ok(entries) => entries,
+        Err(fault) => return Err(fault_of_rows(fault)),
+    };
+    match open_all(alloc, plan, entries) {
+        Ok(platforms) => Ok(platforms),
+        Err(Memory) => Err(Fault::Memory),
     }
 }

@@ -2,6 +2,7 @@
 
 ghost use Rattle.std.specs.Prelude.{◌≡◌, ◌↔◌, [], ◌∷◌, ℕ, IfOk, List, None, Some, true};
 ghost use Rattle.std.specs.Arc.{arc_value};
+ghost use Rattle.pt_io.specs.Calls.{reading, writing};
 ghost use Rattle.pt_types.specs.Lawful.{IsLawful};
 ghost use Rattle.pt_types.specs.declared.rows.Row.{Row};
 ghost use Rattle.pt_semantics.specs.Rows.{FitRows};
@@ -11,20 +12,19 @@ ghost use Rattle.pt_sensors.specs.Places.{StandInPlace, of_run};
 ghost use Rattle.pt_confluence.specs.Gathered.{AreTables, HaveFinished};
 ghost use Rattle.pt_run.specs.Asks.{AsksFrom, AsksOver};
 ghost use Rattle.pt_run.specs.Auditing.{IsJudged, lawful_line};
-ghost use Rattle.pt_run.specs.Due.{AnswersAsDue, IsAudited, IsDue, UnlessMemory};
+ghost use Rattle.pt_run.specs.Due.{AnswersAsDue, IsAudited, IsDue, UnlessMemory, answer_by};
 ghost use Rattle.pt_run.specs.Statuses.{status_of};
-ghost use Rattle.pt_run.specs.Telling.{Tells, TellsBy, paced_run};
-ghost use Rattle.pt_run.specs.Texts.{PutsOrTells, fault_in, left_by};
+ghost use Rattle.pt_run.specs.Reporting.{Reports, ReportsBy, paced_run};
+ghost use Rattle.pt_run.specs.Texts.{PutsOrReports, fault_in, left_by};
 ghost use Rattle.pt_words.specs.Grammar.{audit as to_audit};
 
-use crate::admission::graph_at;
+use crate::admission::{graph_at, planned};
 use crate::fault::Fault;
 use crate::last_file::{LastFile, RowsAndBytes, fetched};
-use crate::notes::{tell, tell_write};
+use crate::notes::{report, report_write};
 use crate::outcome::Ending;
-use crate::output::put_text;
-use crate::run::planned;
-use pt_audit::{Replayed, Verdict, replay};
+use crate::outputs::put_text;
+use pt_audit::{Verdict, Verification, verify};
 use pt_blocks::Blocks;
 use pt_confluence::tables_of;
 use pt_io::{Sink, Source};
@@ -51,21 +51,21 @@ pub fn audit<S: Source, K: Sink, E: Sink>(
     blocks: &Blocks,
 ) -> Ending
     ensures status { result.status ≡ status_of result.fault result.misses }
-    ensures asks { AsksFrom result.fault (S.tells source.old) blocks.now.listed.items name.now (λ g. g.actors) (log.now ∷ []) (S.asked source.old) (S.asked source.new) }
-    ensures due { IsDue (Some (to_audit name.now log.now)) (S.tells source.old) blocks.now.listed.items (record {
-      fault = result.fault;
-      left = left_by result;
-      read = record { asked_before = S.asked source.old; asked_now = S.asked source.new; before = S.faults source.old; now = S.faults source.new };
-      wrote = record { before = K.faults out.old; now = K.faults out.new; written_before = K.written out.old; written_now = K.written out.new };
-    }) }
+    ensures asks { AsksFrom result.fault (S.contents source.old) blocks.now.listed.items name.now
+        (λ g. g.actors) (log.now ∷ []) (S.asked source.old) (S.asked source.new) }
+    ensures due { IsDue (Some (to_audit name.now log.now))
+        (S.contents source.old) blocks.now.listed.items
+        (answer_by result (reading S.Source source.old source.new)
+        (writing K.Sink out.old out.new)) }
     ensures flushed { result.fault ≡ None → K.flushed out.new }
-    ensures notes { TellsBy result.fault result.misses result.platforms.items (Some (paced_run, name.now)) (S.tells source.old) blocks.now.listed.items
-        (record { before = E.faults notes.old; now = E.faults notes.new; written_before = E.written notes.old; written_now = E.written notes.new }) }
+    ensures notes { ReportsBy result.fault result.misses result.platforms.items
+        (Some (paced_run, name.now)) (S.contents source.old) blocks.now.listed.items
+        (writing E.Sink notes.old notes.new) }
 {
     match graph_at(alloc, source, name, blocks) {
         Ok(graph) => audit_graph(alloc, graph, log, source, out, notes, blocks),
         Err(fault) => {
-            let fault = tell(alloc, notes, fault, None);
+            let fault = report(alloc, notes, fault, None);
             Ending::refused(alloc, fault)
         }
     }
@@ -83,17 +83,14 @@ fn audit_graph<S: Source, K: Sink, E: Sink>(
 ) -> Ending
     requires { IsLawful graph }
     ensures status { result.status ≡ status_of result.fault result.misses }
-    ensures asks { AsksOver result.fault [] graph.actors (log.now ∷ []) (S.asked source.old) (S.asked source.new) }
-    ensures due { UnlessMemory (record {
-      fault = result.fault;
-      left = left_by result;
-      read = record { asked_before = S.asked source.old; asked_now = S.asked source.new; before = S.faults source.old; now = S.faults source.new };
-      wrote = record { before = K.faults out.old; now = K.faults out.new; written_before = K.written out.old; written_now = K.written out.new };
-    })
-        (IsAudited log.now (S.tells source.old) graph []) }
+    ensures asks { AsksOver result.fault [] graph.actors (log.now ∷ []) (S.asked source.old)
+        (S.asked source.new) }
+    ensures due { UnlessMemory
+        (answer_by result (reading S.Source source.old source.new) (writing K.Sink out.old out.new))
+        (IsAudited log.now (S.contents source.old) graph []) }
     ensures flushed { result.fault ≡ None → K.flushed out.new }
-    ensures notes { Tells result.fault result.misses (Some graph)
-        (record { before = E.faults notes.old; now = E.faults notes.new; written_before = E.written notes.old; written_now = E.written notes.new }) }
+    ensures notes { Reports result.fault result.misses (Some graph)
+        (writing E.Sink notes.old notes.new) }
 {
     let plan = match planned(alloc, graph, notes) {
         Ok(plan) => plan,
@@ -112,9 +109,10 @@ fn judge<S: Source>(
     blocks: &Blocks,
 ) -> Result<(), Fault>
     ensures due { AnswersAsDue (λ unit. lawful_line) result
-        (record { asked_before = S.asked source.old; asked_now = S.asked source.new; before = S.faults source.old; now = S.faults source.new })
-        (IsAudited log.now (S.tells source.old) (arc_value plan.now).graph []) }
-    ensures asks { AsksOver (fault_in result) [] (arc_value plan.now).graph.actors (log.now ∷ []) (S.asked source.old) (S.asked source.new) }
+        (reading S.Source source.old source.new)
+        (IsAudited log.now (S.contents source.old) (arc_value plan.now).graph []) }
+    ensures asks { AsksOver (fault_in result) [] (arc_value plan.now).graph.actors (log.now ∷ [])
+        (S.asked source.old) (S.asked source.new) }
 {
     let RowsAndBytes { entries, bytes } = match fetched(alloc, plan, LastFile::Log, log, source) {
         Ok(found) => found,
@@ -140,14 +138,17 @@ fn verdict_on(
 ) -> Result<Verdict, Memory>
     requires admitted { IsAdmitted (arc_value plan.now) }
     requires places { StandInPlace (arc_value plan.now).graph entries.items }
-    requires fit { FitRows (arc_value plan.now).graph (of_run (arc_value plan.now).graph (rows_for entries.items)) }
-    ensures { IfOk result (IsJudged (arc_value plan.now) (of_run (arc_value plan.now).graph (rows_for entries.items)) bytes.now) }
+    requires fit { FitRows (arc_value plan.now).graph
+        (of_run (arc_value plan.now).graph (rows_for entries.items)) }
+    ensures { IfOk result
+        (IsJudged (arc_value plan.now)
+        (of_run (arc_value plan.now).graph (rows_for entries.items)) bytes.now) }
 {
-    let Replayed {
+    let Verification {
         verdict,
         log_at,
         platforms,
-    } = replay(alloc, plan, entries, blocks, bytes)?;
+    } = verify(alloc, plan, entries, blocks, bytes)?;
     match verdict {
         Verdict::Fine => {
             if are_tables(alloc, plan, platforms.as_slice(), &bytes[..log_at])? {
@@ -167,7 +168,9 @@ fn are_tables(
     platforms: &[Platform],
     text: &[u8],
 ) -> Result<bool, Memory>
-    ensures { IfOk result (λ same. (rows : ℕ → List Row) → HaveFinished plan.now rows platforms.now → (same ≡ true) ↔ AreTables plan.now rows text.now) }
+    ensures { IfOk result
+        (λ same. (rows : ℕ → List Row) → HaveFinished plan.now rows platforms.now →
+        (same ≡ true) ↔ AreTables plan.now rows text.now) }
 {
     let tables = tables_of(alloc, plan, platforms)?;
     Ok(tables.as_str().as_bytes() == text)
@@ -182,18 +185,18 @@ fn end_audit<K: Sink, E: Sink>(
     notes: &mut E,
 ) -> Ending
     ensures status { result.status ≡ status_of result.fault result.misses }
-    ensures gives { PutsOrTells (λ unit. lawful_line) judged result
-        (record { before = K.faults out.old; now = K.faults out.new; written_before = K.written out.old; written_now = K.written out.new }) }
+    ensures gives { PutsOrReports (λ unit. lawful_line) judged result
+        (writing K.Sink out.old out.new) }
     ensures flushed { result.fault ≡ None → K.flushed out.new }
-    ensures notes { Tells result.fault result.misses (Some graph.now)
-        (record { before = E.faults notes.old; now = E.faults notes.new; written_before = E.written notes.old; written_now = E.written notes.new }) }
+    ensures notes { Reports result.fault result.misses (Some graph.now)
+        (writing E.Sink notes.old notes.new) }
 {
     if let Err(fault) = judged {
-        let fault = tell(alloc, notes, fault, Some(graph));
+        let fault = report(alloc, notes, fault, Some(graph));
         return Ending::refused(alloc, fault);
     }
     if put_text(out, b"lawful\n").is_err() {
-        tell_write(notes);
+        report_write(notes);
         return Ending::refused(alloc, Fault::Write);
     }
     Ending::done(Vec::new(alloc), Vec::new(alloc))

@@ -1,22 +1,27 @@
-//! The engines of runs by clocks of their own. These may wait: a run by a clock that stops may go on forever.
+//! The engines of runs: rounds by the paced clock, and visits by clocks of their own. The latter may wait: a run by a clock that stops
+//! may go on forever.
 
 ghost use Rattle.std.specs.Prelude.{◌≡◌, ◌≤◌, ◌<◌, ◌++◌, ℕ, IfOk, OnOk, List, length, replicate, take, drop};
-ghost use Rattle.pt_io.specs.Told.{tell};
+ghost use Rattle.pt_io.specs.Clocks.{viewed};
 ghost use Rattle.pt_types.specs.declared.rows.Row.{Row};
 ghost use Rattle.pt_offsets.specs.Plans.{Parts};
 ghost use Rattle.pt_turn.specs.All.{AreReady, IsReady};
+ghost use Rattle.pt_confluence.specs.Gathered.{AreLegal};
+ghost use Rattle.pt_run.specs.Clocks.{AreAsMany};
 ghost use Rattle.pt_run.specs.Readings.{step_clock};
-ghost use Rattle.pt_run.specs.Runs.{WentBy, clocks_by, steps_by};
-ghost use Rattle.pt_run.specs.Went.{GoneBy};
+ghost use Rattle.pt_run.specs.Runs.{LeavesOutcome, clocks_by, paced_clocking, read_with, steps_by};
+ghost use Rattle.pt_run.specs.Workers.{IsOutcomeOfWorkers};
 
-use crate::went::Went;
-use pt_alone::{Ended, alone};
 use pt_blocks::Blocks;
-use pt_free::Open;
+use pt_engine::{ClockedRounds, Rounds};
+use pt_fixed_order::alone;
 use pt_io::{Clock, StepClock};
-use pt_tags::Memory;
-use pt_threads::threaded;
+use pt_rounds::paced;
+use pt_tags::{Memory, Time};
 use pt_turn::Platform;
+use pt_words::ClockChoice;
+use pt_workers::threaded;
+use pt_workers::work::Open;
 use std::alloc::Global;
 use std::collections::VecDeque;
 use std::mem;
@@ -24,35 +29,99 @@ use std::sync::Wait;
 use std::thread::Threads;
 
 /// The most units that a platform claims at a visit.
-const MOST: usize = 8;
+const CLAIMS_A_VISIT: usize = 8;
 
-/// Runs all platforms of one plan, just opened and in the order of its graph, by clocks of steps. They are visited in turn: the
-/// number of workers, 1 to 64, has no effect.
-pub fn go_by_steps<R: Wait>(
+/// Runs all platforms of one plan, just opened and in the order of its graph, by this clock. By the machine's clock it has as many
+/// workers, 1 to 64, and reads the first of the clocks that are handed in, one for each platform. By the other clocks the number of
+/// workers has no effect.
+pub fn run_by<C: Clock + Send, R: Threads + Wait + Sync>(
     rt: &R,
     alloc: Global,
     platforms: Vec<Platform>,
     workers: u32,
-    start: u64,
-    step: u64,
+    clock: ClockChoice,
+    clocks: &mut Vec<C>,
     blocks: &Blocks,
-) -> Result<Went, Memory>
+) -> Result<Rounds, Memory>
     requires some { 0 < length platforms.items }
     requires ready { IsReady platforms.items }
-    ensures { IfOk result (λ went. (plan : Parts) (rows : ℕ → List Row) → AreReady plan rows platforms.items → WentBy (steps_by workers start step) plan rows went.platforms.items went.fault) }
+    requires clocks { length platforms.items ≤ length clocks.old.items }
+    ensures outcome { IfOk result
+        (LeavesOutcome (read_with workers clock (viewed C.readings C.ahead clocks.old.items)
+        (viewed C.readings C.ahead clocks.new.items)) platforms.items) }
+    ensures clocks { OnOk result (AreAsMany clock clocks.old.items clocks.new.items) }
+{
+    match clock {
+        ClockChoice::Paced => run_paced(alloc, platforms, blocks, workers),
+        ClockChoice::Step { start, step } => {
+            run_by_steps(rt, alloc, platforms, workers, start, step, blocks)
+        }
+        ClockChoice::Machine => run_by_clocks(rt, alloc, platforms, workers, clocks, blocks),
+    }
+}
+
+/// Runs all platforms of one plan, just opened and in the order of its graph, under the paced clock. The number of workers, 1
+/// to 64, has no effect.
+fn run_paced(
+    alloc: Global,
+    platforms: Vec<Platform>,
+    blocks: &Blocks,
+    workers: u32,
+) -> Result<Rounds, Memory>
+    requires some { 0 < length platforms.items }
+    requires ready { IsReady platforms.items }
+    ensures { IfOk result (LeavesOutcome (paced_clocking workers) platforms.items) }
+{
+    let rounds = paced(alloc, platforms, blocks, workers)?;
+    are_legal(rounds.platforms.as_slice());
+    Ok(rounds)
+}
+
+/// The recorded turns of each platform are a legal history, as each platform ensures. This is for proofs alone.
+fn are_legal(platforms: &[Platform])
+    ensures { AreLegal platforms.now }
+{
+    for platform in platforms {
+        let _turns = platform.history().turns();
+    }
+}
+
+/// Runs all platforms of one plan, just opened and in the order of its graph, by clocks of steps. They are visited in turn: the
+/// number of workers, 1 to 64, has no effect.
+fn run_by_steps<R: Wait>(
+    rt: &R,
+    alloc: Global,
+    platforms: Vec<Platform>,
+    workers: u32,
+    start: Time,
+    step: u64,
+    blocks: &Blocks,
+) -> Result<Rounds, Memory>
+    requires some { 0 < length platforms.items }
+    requires ready { IsReady platforms.items }
+    ensures { IfOk result (LeavesOutcome (steps_by workers start step) platforms.items) }
 {
     let clocks = step_clocks(alloc, platforms.len(), start, step)?;
-    let Ended {
+    let ClockedRounds { rounds, clocks: _ } = alone(
+        rt,
+        alloc,
         platforms,
-        clocks: _,
-        fault,
-    } = alone(rt, alloc, platforms, clocks, blocks, MOST)?;
-    Ok(Went { platforms, fault })
+        clocks,
+        blocks,
+        CLAIMS_A_VISIT,
+    )?;
+    Ok(rounds)
 }
 
 /// As many clocks of steps, which handed out nothing.
-fn step_clocks(alloc: Global, count: usize, start: u64, step: u64) -> Result<Vec<StepClock>, Memory>
-    ensures { IfOk result (λ clocks. tell ⟦<StepClock as Clock>⟧.told ⟦<StepClock as Clock>⟧.ahead clocks.items ≡ replicate count (step_clock start step)) }
+fn step_clocks(
+    alloc: Global,
+    count: usize,
+    start: Time,
+    step: u64,
+) -> Result<Vec<StepClock>, Memory>
+    ensures { IfOk result
+        (λ clocks. viewed ⟦<StepClock as Clock>⟧.readings ⟦<StepClock as Clock>⟧.ahead clocks.items ≡ replicate count (step_clock start step)) }
 {
     let mut clocks = Vec::new(alloc);
     for _ in 0..count {
@@ -65,30 +134,30 @@ fn step_clocks(alloc: Global, count: usize, start: u64, step: u64) -> Result<Vec
 
 /// Runs all platforms of one plan, just opened and in the order of its graph, by the first of these clocks. If memory runs out,
 /// the clocks are lost.
-pub fn go_by_clocks<C: Clock + Send, R: Threads + Wait + Sync>(
+fn run_by_clocks<C: Clock + Send, R: Threads + Wait + Sync>(
     rt: &R,
     alloc: Global,
     platforms: Vec<Platform>,
     workers: u32,
     clocks: &mut Vec<C>,
     blocks: &Blocks,
-) -> Result<Went, Memory>
+) -> Result<Rounds, Memory>
     requires some { 0 < length platforms.items }
     requires ready { IsReady platforms.items }
     requires clocks { length platforms.items ≤ length clocks.old.items }
-    ensures went { IfOk result (λ went. (plan : Parts) (rows : ℕ → List Row) → AreReady plan rows platforms.items →
-        WentBy (clocks_by workers (tell C.told C.ahead clocks.old.items) (tell C.told C.ahead clocks.new.items)) plan rows went.platforms.items went.fault) }
+    ensures outcome { IfOk result
+        (LeavesOutcome (clocks_by workers (viewed C.readings C.ahead clocks.old.items)
+        (viewed C.readings C.ahead clocks.new.items)) platforms.items) }
     ensures clocks { OnOk result (length clocks.new.items ≡ length clocks.old.items) }
 {
     let handed = mem::replace(clocks, Vec::new(alloc));
     let (own, others) = parted(handed, platforms.len())?;
-    let Ended {
-        platforms,
+    let ClockedRounds {
+        rounds,
         clocks: read,
-        fault,
     } = visit_all(rt, alloc, platforms, own, workers, blocks)?;
     *clocks = joined(read, others)?;
-    Ok(Went { platforms, fault })
+    Ok(rounds)
 }
 
 /// Runs all platforms, each by its own clock: one worker visits them in turn, and more are threads that each
@@ -100,24 +169,37 @@ fn visit_all<C: Clock + Send, R: Threads + Wait + Sync>(
     clocks: Vec<C>,
     workers: u32,
     blocks: &Blocks,
-) -> Result<Ended<C>, Memory>
+) -> Result<ClockedRounds<C>, Memory>
     requires some { 0 < length platforms.items }
     requires ready { IsReady platforms.items }
     requires clocks { length clocks.items ≡ length platforms.items }
-    ensures { IfOk result (λ e. (plan : Parts) (rows : ℕ → List Row) → AreReady plan rows platforms.items →
-        GoneBy workers plan rows (tell C.told C.ahead clocks.items) (tell C.told C.ahead e.clocks.items) e.platforms.items e.fault) }
+    ensures { IfOk result
+        (λ e. (plan : Parts) (rows : ℕ → List Row) → AreReady plan rows platforms.items →
+        IsOutcomeOfWorkers workers plan rows (viewed C.readings C.ahead clocks.items)
+        (viewed C.readings C.ahead e.clocks.items) e.rounds.platforms.items e.rounds.fault) }
 {
     if workers == 1 {
-        alone(rt, alloc, platforms, clocks, blocks, MOST)
+        alone(rt, alloc, platforms, clocks, blocks, CLAIMS_A_VISIT)
     } else {
-        threaded(rt, alloc, platforms, clocks, blocks, workers, MOST, &Open)
+        threaded(
+            rt,
+            alloc,
+            platforms,
+            clocks,
+            blocks,
+            workers,
+            CLAIMS_A_VISIT,
+            &Open,
+        )
     }
 }
 
 /// The first `count` of these clocks, and the others.
 fn parted<C: Clock>(clocks: Vec<C>, count: usize) -> Result<(Vec<C>, Vec<C>), Memory>
     requires { count ≤ length clocks.items }
-    ensures { IfOk result (λ parts. (parts.0.items ≡ take count clocks.items) × (parts.1.items ≡ drop count clocks.items)) }
+    ensures { IfOk result
+        (λ parts. (parts.0.items ≡ take count clocks.items)
+        × (parts.1.items ≡ drop count clocks.items)) }
 {
     let mut first = VecDeque::from(clocks);
     let others = first.split_off(count)?;

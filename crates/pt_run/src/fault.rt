@@ -2,7 +2,7 @@
 
 ghost use Rattle.std.specs.Prelude.{◌≡◌};
 ghost use Rattle.pt_run.specs.Statuses.{status_of_fault};
-ghost use Rattle.pt_run.specs.Faults.{fault_of_air, fault_of_cycle, fault_of_graph, fault_of_offset, fault_of_plan, fault_of_rows, fault_of_slacks};
+ghost use Rattle.pt_run.specs.Faults.{fault_of_air, fault_of_cycle, fault_of_graph, fault_of_offset, fault_of_plan, fault_of_rows, fault_of_slacks, fault_of_turn};
 
 use pt_air::AirFault;
 use pt_audit::Verdict;
@@ -11,24 +11,21 @@ use pt_graph::GraphFault;
 use pt_offsets::{OffsetFault, PlanFault};
 use pt_sensors::{RecordedFault, RowFault};
 use pt_slacks::SlackFault;
-use pt_tags::{List, Memory, Tag};
+use pt_tags::{List, Memory, Reading, Tag};
+use pt_turn::TurnFault;
 use std::alloc::AllocError;
-use thiserror::Error;
 
-/// Why a call did not write its whole answer. Actors are numbered as in the graph, from 0; times are microseconds.
-#[derive(Debug, Drop, Error)]
+/// Why a call did not write its whole answer. Actors are numbered as in the graph, from 0; times are microseconds. `notes` has the
+/// line that reports it, with the names of the graph.
+#[derive(Debug, Drop)]
 pub enum Fault {
     /// The command line is not valid.
-    #[error("the command line is not valid")]
     Usage,
     /// The graph file has this fault.
-    #[error("the graph file: {0}")]
     Graph(GraphFault),
     /// These actors form a cycle that takes no time, in its order; the first has the least number.
-    #[error("the actors {0:?} are a cycle that takes no time")]
     Cycle(List<u32>),
     /// What reaches this sender may come too late for it to send within its slack: `offset + 1 > slack`.
-    #[error("the sender {send} has a slack of {slack}, not more than its offset {offset}")]
     Infeasible {
         send: u32,
         offset: i64,
@@ -36,75 +33,62 @@ pub enum Fault {
     },
     /// However great the slacks are, one of these senders can't send in time: from each to the next, and from the last to the
     /// first, the slack that is needed grows, by `gain` in all. The first has the least number.
-    #[error("around the senders {sends:?} the slack that is needed grows by {gain}")]
     Ring {
         sends: List<u32>,
         gain: u64,
     },
     /// The sensor's file has this fault.
-    #[error("the file of actor {actor}: {fault}")]
     Sensor {
         actor: u32,
         fault: RowFault,
     },
     /// Row `row`, from 1, of the sensor is seen at `seen`, past `limit`, its time plus the sensor's bound.
-    #[error("row {row} of actor {actor} is late: seen at {seen}, past {limit}")]
     LateRow {
         actor: u32,
         row: u32,
-        seen: u64,
+        seen: Reading,
         limit: u64,
     },
     /// A message for this receiver at this tag was late on this platform: its last reading was `reading`, past `limit`, the
     /// tag's time plus the receiver's bound. Its recorded turns end with it. Never in a paced run.
-    #[error("a message for actor {actor} at {time}.{step} on platform {platform} is late: read at {reading}, past {limit}", time = .tag.time, step = .tag.step)]
     LateMessage {
         platform: u32,
         actor: u32,
         tag: Tag,
-        reading: u64,
+        reading: Reading,
         limit: u64,
     },
     /// In a replay a message for this receiver at this tag was late on this platform: its last reading was `reading`, past
     /// `limit`, the tag's time plus the receiver's bound. Its recorded turns end with it. Row `row`, from 1, of the recording is the
     /// first that breaks a stated bound.
-    #[error("in the replay a message for actor {actor} at {time}.{step} on platform {platform} is late: read at {reading}, past {limit}; row {row} breaks a bound", time = .tag.time, step = .tag.step)]
     LateAir {
         platform: u32,
         actor: u32,
         tag: Tag,
-        reading: u64,
+        reading: Reading,
         limit: u64,
         row: u32,
     },
-    /// This platform made 200,000 claims and needed more: in a paced run, the meaning has more firings of units on it. For
-    /// `None`, the meaning has more than 200,000 firings times the number of platforms.
-    #[error("too many claims or firings")]
+    /// This platform made all its claims and needed more: in a paced run, the meaning has more firings of units on it. For
+    /// `None`, the meaning has more firings than all platforms may claim.
     Long {
         platform: Option<u32>,
     },
     /// The graph file, for `None`, or the file of this sensor could not be read.
-    #[error("a file could not be read")]
     Read {
         sensor: Option<u32>,
     },
     /// The log to be audited could not be read.
-    #[error("the log could not be read")]
     ReadLog,
     /// The recording of a network has this fault.
-    #[error("the recording of the network: {0}")]
     Air(AirFault),
     /// The recording of a network could not be read.
-    #[error("the recording of the network could not be read")]
     ReadAir,
     /// The log to be audited is not what a run of the graph writes: this is the verdict on it, never `Verdict::Fine`.
-    #[error("the log is not one of a run of the graph: {0:?}")]
     Unlawful(Verdict),
     /// The output could not be written in full.
-    #[error("the output could not be written in full")]
     Write,
     /// Memory ran out.
-    #[error("memory")]
     Memory,
 }
 
@@ -245,5 +229,39 @@ pub fn fault_of_air(fault: AirFault) -> Fault
     match fault {
         AirFault::Memory => Fault::Memory,
         _ => Fault::Air(fault),
+    }
+}
+
+/// The fault of a call whose run this platform stopped with this fault. In a replay `breach` is the first row of its recording that
+/// breaks a stated bound.
+pub fn fault_of_turn(platform: u32, breach: Option<u32>, fault: TurnFault) -> Fault
+    ensures { result ≡ fault_of_turn platform breach fault }
+{
+    match fault {
+        TurnFault::Long => Fault::Long {
+            platform: Some(platform),
+        },
+        TurnFault::Late {
+            actor,
+            tag,
+            reading,
+            limit,
+        } => match breach {
+            None => Fault::LateMessage {
+                platform,
+                actor,
+                tag,
+                reading,
+                limit,
+            },
+            Some(row) => Fault::LateAir {
+                platform,
+                actor,
+                tag,
+                reading,
+                limit,
+                row,
+            },
+        },
     }
 }

@@ -2,21 +2,20 @@
 
 ghost use Rattle.std.specs.Prelude.{◌≡◌, [], ◌∷◌, IfErr, IfOk};
 ghost use Rattle.std.specs.Arc.{arc_value};
+ghost use Rattle.pt_io.specs.Calls.{reading};
 ghost use Rattle.pt_run.specs.Asks.{AsksOver};
 ghost use Rattle.pt_run.specs.Due.{RefusesAsDue};
 ghost use Rattle.pt_run.specs.LastFiles.{HasAllRows, HasFetched, IsUnread, most_of, unread_of};
 ghost use Rattle.pt_run.specs.Texts.{fault_in};
 
 use crate::fault::{Fault, fault_of_rows};
-use pt_air::MOST_BYTES as MOST_AIR_BYTES;
+use pt_air::MOST_AIR_BYTES;
 use pt_io::{FetchFault, Source};
 use pt_offsets::Plan;
 use pt_sensors::{LateRows, SensorRows, recorded};
+use pt_types::MOST_LOG_BYTES;
 use std::alloc::Global;
 use std::sync::Arc;
-
-/// The most bytes that a log may have.
-const MOST_LOG_BYTES: usize = 67_108_864;
 
 /// The file that is read last.
 #[derive(Clone, Copy)]
@@ -64,12 +63,15 @@ pub fn fetched<S: Source>(
     name: &str,
     source: &mut S,
 ) -> Result<RowsAndBytes, Fault>
-    ensures rows { IfOk result (λ found. HasAllRows (S.tells source.old) (arc_value plan.now) found.entries.items) }
-    ensures bytes { IfOk result (λ found. HasFetched last (S.tells source.old) name.now found.bytes.items) }
+    ensures rows { IfOk result
+        (λ found. HasAllRows (S.contents source.old) (arc_value plan.now) found.entries.items) }
+    ensures bytes { IfOk result
+        (λ found. HasFetched last (S.contents source.old) name.now found.bytes.items) }
     ensures refused { IfErr result (λ f. RefusesAsDue f
-        (record { asked_before = S.asked source.old; asked_now = S.asked source.new; before = S.faults source.old; now = S.faults source.new })
-        (IsUnread last name.now (S.tells source.old) (arc_value plan.now).graph)) }
-    ensures asks { AsksOver (fault_in result) [] (arc_value plan.now).graph.actors (name.now ∷ []) (S.asked source.old) (S.asked source.new) }
+        (reading S.Source source.old source.new)
+        (IsUnread last name.now (S.contents source.old) (arc_value plan.now).graph)) }
+    ensures asks { AsksOver (fault_in result) [] (arc_value plan.now).graph.actors (name.now ∷ [])
+        (S.asked source.old) (S.asked source.new) }
 {
     let entries = match recorded(alloc, source, plan.graph(), LateRows::Refused) {
         Ok(entries) => entries,

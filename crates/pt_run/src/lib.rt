@@ -9,8 +9,8 @@
 //! `specs/Making.antt`, `specs/Migrating.antt`, `specs/Auditing.antt` and `specs/Replaying.antt`. That an answer which known files decide
 //! comes whenever it is due is in `specs/Exact.antt`. Which files are asked for is in `specs/Asks.antt`.
 //!
-//! Read first: `ptides`, then `specs/Headline.antt`; `run_of` is a paced run of a plan. Only the functions between `ptides` and
-//! `engines` may wait and start threads; paced runs, `check`, `meaning`, `make`, `migrate`, `slacks`, `audit` and `replay` return,
+//! Read first: `ptides`, then `specs/Headline.antt`. A run goes from `top` by `admission`, `run` and `engines` to `outputs`. Only the
+//! functions between `ptides` and `engines` may wait and start threads; the engine of paced runs, `check`, `meaning`, `make`, `migrate`, `slacks`, `audit` and `replay` return,
 //! as the absence of that bound in them says.
 #![tactic(auto)]
 
@@ -19,7 +19,7 @@ mod audit;
 mod check;
 mod engines;
 mod fault;
-mod finished_run;
+mod fault_line;
 mod last_file;
 mod laws;
 mod make;
@@ -27,23 +27,18 @@ mod meaning;
 mod migrate;
 mod notes;
 mod outcome;
-mod output;
-mod own_clocks;
+mod outputs;
 mod plan_laws;
-mod plan_run;
 mod replay;
 mod run;
 mod slacks;
 mod top;
-mod went;
 
 pub use fault::Fault;
-pub use finished_run::Ran;
 pub use laws::{
     calls_agree, replays_agree, replays_in_bounds_agree_with_runs, replays_in_bounds_do_as_paced,
     runs_agree, slack_runs_miss_nothing, written_logs_are_lawful,
 };
 pub use outcome::Outcome;
 pub use plan_laws::{finished_runs_agree, plan_runs_agree, step_runs_agree};
-pub use plan_run::{RunFault, run_of};
 pub use top::ptides;

@@ -2,30 +2,31 @@
 
 ghost use Rattle.std.specs.Prelude.{◌≡◌, ◌≤◌, IfOk, None, Some, string_bytes};
 ghost use Rattle.std.specs.Arc.{arc_value};
+ghost use Rattle.pt_io.specs.Calls.{Contents, Reading, writing};
 ghost use Rattle.pt_offsets.specs.Plans.{IsAdmitted};
 ghost use Rattle.pt_causality.specs.Ranked.{level_of};
-ghost use Rattle.pt_sensors.specs.Asked.{Contents, Reading};
 ghost use Rattle.pt_sensors.specs.Places.{of_run};
-ghost use Rattle.pt_rounds.specs.HaveRun.{HaveRun};
-ghost use Rattle.pt_made.specs.Input.{made_graph as graph_made, made_rows as rows_made};
+ghost use Rattle.pt_rounds.specs.Outcome.{IsOutcome as IsPacedOutcome};
+ghost use Rattle.pt_make.specs.Input.{made_graph as graph_made, made_rows as rows_made};
 ghost use Rattle.pt_run.specs.Statuses.{status_of};
-ghost use Rattle.pt_run.specs.Due.{IsDue};
+ghost use Rattle.pt_run.specs.Due.{IsDue, answer_by};
 ghost use Rattle.pt_run.specs.Making.{IsMadeRun};
-ghost use Rattle.pt_run.specs.Telling.{Tells};
+ghost use Rattle.pt_run.specs.Reporting.{Reports};
 ghost use Rattle.pt_run.specs.Texts.{left_by};
 ghost use Rattle.pt_words.specs.Grammar.{make as to_make};
 
 use crate::fault::{Fault, fault_of_plan};
-use crate::notes::{tell, tell_write};
+use crate::notes::{report, report_write};
 use crate::outcome::Ending;
-use crate::output::put_text;
+use crate::outputs::put_text;
 use pt_blocks::Blocks;
 use pt_confluence::gather;
+use pt_engine::Rounds;
 use pt_io::Sink;
-use pt_made::{made_graph, made_rows, summary};
+use pt_make::{made_graph, made_rows, summary};
 use pt_monitors::missed;
 use pt_offsets::{Plan, Unplanned, plan_of};
-use pt_rounds::{Rounds, paced};
+use pt_rounds::paced;
 use pt_tags::Memory;
 use pt_turn::{Platform, open_all};
 use std::alloc::Global;
@@ -52,22 +53,19 @@ pub fn make<K: Sink, E: Sink>(
 ) -> Ending
     requires { number ≤ 100 }
     ensures status { result.status ≡ status_of result.fault result.misses }
-    ensures due { (tells : Contents) (r : Reading) → IsDue (Some (to_make number workers)) tells blocks.now.listed.items (record {
-      fault = result.fault;
-      left = left_by result;
-      read = r;
-      wrote = record { before = K.faults out.old; now = K.faults out.new; written_before = K.written out.old; written_now = K.written out.new };
-    }) }
+    ensures due { (contents : Contents) (r : Reading) →
+        IsDue (Some (to_make number workers)) contents blocks.now.listed.items
+        (answer_by result r (writing K.Sink out.old out.new)) }
     ensures flushed { result.fault ≡ None → K.flushed out.new }
-    ensures notes { Tells result.fault result.misses None
-        (record { before = E.faults notes.old; now = E.faults notes.new; written_before = E.written notes.old; written_now = E.written notes.new }) }
+    ensures notes { Reports result.fault result.misses None
+        (writing E.Sink notes.old notes.new) }
 {
     let Ok(MadeRun { summary, platforms }) = run_made(alloc, number, workers, blocks) else {
-        let fault = tell(alloc, notes, Fault::Memory, None);
+        let fault = report(alloc, notes, Fault::Memory, None);
         return Ending::refused(alloc, fault);
     };
     if put_text(out, summary.as_str().as_bytes()).is_err() {
-        tell_write(notes);
+        report_write(notes);
         return Ending::stopped(alloc, Fault::Write, platforms);
     }
     Ending::done(Vec::new(alloc), platforms)
@@ -76,7 +74,8 @@ pub fn make<K: Sink, E: Sink>(
 /// Runs the input made from a number.
 fn run_made(alloc: Global, number: u32, workers: u32, blocks: &Blocks) -> Result<MadeRun, Memory>
     requires { number ≤ 100 }
-    ensures { IfOk result (λ made. IsMadeRun number made.platforms.items (string_bytes made.summary)) }
+    ensures { IfOk result
+        (λ made. IsMadeRun number made.platforms.items (string_bytes made.summary)) }
 {
     let plan = made_plan(alloc, number)?;
     let plan = Arc::new(alloc, plan)?;
@@ -114,15 +113,16 @@ fn made_platforms(
     requires few { number ≤ 100 }
     requires graph { (arc_value plan.now).graph ≡ graph_made number }
     requires admitted { IsAdmitted (arc_value plan.now) }
-    ensures { IfOk result (λ platforms. HaveRun (arc_value plan.now) (level_of (arc_value plan.now).ranks) (of_run (graph_made number) (rows_made number)) platforms.items None) }
+    ensures { IfOk result
+        (λ platforms. IsPacedOutcome (arc_value plan.now) (level_of (arc_value plan.now).ranks)
+        (of_run (graph_made number) (rows_made number)) platforms.items None) }
 {
     let entries = made_rows(alloc, number)?;
     let platforms = open_all(alloc, plan, entries)?;
     let Rounds { platforms, fault } = paced(alloc, platforms, blocks, workers)?;
-    let Some(number) = fault else {
+    let Some(_) = fault else {
         return Ok(platforms);
     };
-    // Its fault would mean 200,000 claims, which no platform makes.
-    let _fault = platforms[number as usize].fault();
+    // It would mean that a platform made all its claims, which none does.
     unreachable!()
 }

@@ -1,12 +1,12 @@
 //! The command `meaning`.
 
 ghost use Rattle.std.specs.Prelude.{[], length, string_bytes};
+ghost use Rattle.pt_io.specs.Calls.{Reading, reading};
 ghost use Rattle.pt_types.specs.Lawful.{IsLawful};
 ghost use Rattle.pt_semantics.specs.Lists.{Each};
 ghost use Rattle.pt_semantics.specs.Ranks.{AreRanks};
 ghost use Rattle.pt_sensors.specs.Listed.{rows_for, IsOfActors};
 ghost use Rattle.pt_causality.specs.Ranked.{rank_of};
-ghost use Rattle.pt_sensors.specs.Asked.{Reading};
 ghost use Rattle.pt_sensors.specs.declared.recorded_fault.LateRows.TheVariants.{Taken};
 ghost use Rattle.pt_words.specs.declared.orders.Command.TheVariants.{Meaning};
 ghost use Rattle.pt_run.specs.Asks.{AsksOver};
@@ -19,7 +19,7 @@ use pt_io::Source;
 use pt_meaning::MeaningFault;
 use pt_sensors::{LateRows, SensorRows, recorded};
 use pt_tables::tables_of_meaning;
-use pt_types::{Graph, MOST_CLAIMS};
+use pt_types::Graph;
 use std::alloc::Global;
 
 /// The text that `meaning` writes: the tables of the meaning of a graph and the rows of its sensors' files.
@@ -30,9 +30,10 @@ pub fn meaning_answer<S: Source>(
 ) -> Result<String, Fault>
     requires { IsLawful graph.now }
     ensures due { AnswersAsDue string_bytes result
-        (record { asked_before = S.asked source.old; asked_now = S.asked source.new; before = S.faults source.old; now = S.faults source.new })
-        (IsDueFor Meaning (S.tells source.old) graph.now []) }
-    ensures asks { AsksOver (fault_in result) [] graph.now.actors [] (S.asked source.old) (S.asked source.new) }
+        (reading S.Source source.old source.new)
+        (IsDueFor Meaning (S.contents source.old) graph.now []) }
+    ensures asks { AsksOver (fault_in result) [] graph.now.actors [] (S.asked source.old)
+        (S.asked source.new) }
 {
     match ranks_of(alloc, graph) {
         Ok(ranks) => meaning_text(alloc, source, graph, &ranks),
@@ -50,9 +51,11 @@ fn meaning_text<S: Source>(
     requires lawful { IsLawful graph.now }
     requires ranks { AreRanks graph.now (rank_of ranks.now) }
     ensures due { AnswersAsDue string_bytes result
-        (record { asked_before = S.asked source.old; asked_now = S.asked source.new; before = S.faults source.old; now = S.faults source.new })
-        (λ a. AfterRows Taken (S.tells source.old) graph.now [] a (λ rows. IsMeantBy graph.now rows a)) }
-    ensures asks { AsksOver (fault_in result) [] graph.now.actors [] (S.asked source.old) (S.asked source.new) }
+        (reading S.Source source.old source.new)
+        (λ a. AfterRows Taken (S.contents source.old) graph.now [] a
+        (λ rows. IsMeantBy graph.now rows a)) }
+    ensures asks { AsksOver (fault_in result) [] graph.now.actors [] (S.asked source.old)
+        (S.asked source.new) }
 {
     let sensors = match recorded(alloc, source, graph, LateRows::Taken) {
         Ok(sensors) => sensors,
@@ -61,7 +64,7 @@ fn meaning_text<S: Source>(
     meaning_tables(alloc, graph, ranks, sensors.as_slice())
 }
 
-/// The tables of the meaning of a graph and these rows, if it has at most 200,000 firings times the number of platforms.
+/// The tables of the meaning of a graph and these rows, if it has at most the graph's number of claims times the number of platforms firings.
 fn meaning_tables(
     alloc: Global,
     graph: &Graph,
@@ -71,9 +74,10 @@ fn meaning_tables(
     requires lawful { IsLawful graph.now }
     requires ranks { AreRanks graph.now (rank_of ranks.now) }
     requires sensors { Each (IsOfActors (length graph.now.actors)) sensors.now }
-    ensures { (r : Reading) → AnswersAsDue string_bytes result r (IsMeantBy graph.now (rows_for sensors.now)) }
+    ensures { (r : Reading) →
+        AnswersAsDue string_bytes result r (IsMeantBy graph.now (rows_for sensors.now)) }
 {
-    let most = MOST_CLAIMS as usize * graph.platforms.as_slice().len();
+    let most = graph.claims as usize * graph.platforms.as_slice().len();
     match tables_of_meaning(alloc, graph, ranks.ranks(), sensors, most) {
         Ok(text) => Ok(text),
         Err(MeaningFault::Long) => Err(Fault::Long { platform: None }),

@@ -1,19 +1,20 @@
 //! The command `migrate`.
 
 ghost use Rattle.std.specs.Prelude.{◌≡◌, [], IfOk, None, Some};
+ghost use Rattle.pt_io.specs.Calls.{reading, writing};
 ghost use Rattle.pt_run.specs.Asks.{AsksFrom};
-ghost use Rattle.pt_run.specs.Due.{AnswersAsDue, IsDue, IsDueTo};
+ghost use Rattle.pt_run.specs.Due.{AnswersAsDue, IsDue, IsDueTo, answer_by};
 ghost use Rattle.pt_run.specs.Migrating.{IsDefined, IsMigrated};
 ghost use Rattle.pt_run.specs.Statuses.{status_of};
-ghost use Rattle.pt_run.specs.Telling.{Tells};
+ghost use Rattle.pt_run.specs.Reporting.{Reports};
 ghost use Rattle.pt_run.specs.Texts.{fault_in, left_by};
 ghost use Rattle.pt_words.specs.Grammar.{migrate as to_migrate};
 
 use crate::admission::graph_at;
 use crate::fault::Fault;
-use crate::notes::{tell, tell_write};
+use crate::notes::{report, report_write};
 use crate::outcome::Ending;
-use crate::output::put_text;
+use crate::outputs::put_text;
 use pt_blocks::Blocks;
 use pt_graph_writer::graph_text;
 use pt_io::{Sink, Source};
@@ -34,26 +35,24 @@ pub fn migrate<S: Source, K: Sink, E: Sink>(
     blocks: &Blocks,
 ) -> Ending
     ensures status { result.status ≡ status_of result.fault result.misses }
-    ensures asks { AsksFrom result.fault (S.tells source.old) blocks.now.listed.items name.now (λ g. []) [] (S.asked source.old) (S.asked source.new) }
-    ensures due { IsDue (Some (to_migrate name.now)) (S.tells source.old) blocks.now.listed.items (record {
-      fault = result.fault;
-      left = left_by result;
-      read = record { asked_before = S.asked source.old; asked_now = S.asked source.new; before = S.faults source.old; now = S.faults source.new };
-      wrote = record { before = K.faults out.old; now = K.faults out.new; written_before = K.written out.old; written_now = K.written out.new };
-    }) }
+    ensures asks { AsksFrom result.fault (S.contents source.old) blocks.now.listed.items name.now
+        (λ g. []) [] (S.asked source.old) (S.asked source.new) }
+    ensures due { IsDue (Some (to_migrate name.now)) (S.contents source.old) blocks.now.listed.items
+        (answer_by result (reading S.Source source.old source.new)
+        (writing K.Sink out.old out.new)) }
     ensures flushed { result.fault ≡ None → K.flushed out.new }
-    ensures notes { Tells result.fault result.misses None
-        (record { before = E.faults notes.old; now = E.faults notes.new; written_before = E.written notes.old; written_now = E.written notes.new }) }
+    ensures notes { Reports result.fault result.misses None
+        (writing E.Sink notes.old notes.new) }
 {
     let text = match migrated(alloc, source, name, blocks) {
         Ok(text) => text,
         Err(fault) => {
-            let fault = tell(alloc, notes, fault, None);
+            let fault = report(alloc, notes, fault, None);
             return Ending::refused(alloc, fault);
         }
     };
     if put_text(out, text.as_slice()).is_err() {
-        tell_write(notes);
+        report_write(notes);
         return Ending::refused(alloc, Fault::Write);
     }
     Ending::done(Vec::new(alloc), Vec::new(alloc))
@@ -67,9 +66,11 @@ fn migrated<S: Source>(
     blocks: &Blocks,
 ) -> Result<Vec<u8>, Fault>
     ensures due { AnswersAsDue (λ text. text.items) result
-        (record { asked_before = S.asked source.old; asked_now = S.asked source.new; before = S.faults source.old; now = S.faults source.new })
-        (IsDueTo (to_migrate name.now) (S.tells source.old) blocks.now.listed.items) }
-    ensures asks { AsksFrom (fault_in result) (S.tells source.old) blocks.now.listed.items name.now (λ g. []) [] (S.asked source.old) (S.asked source.new) }
+        (reading S.Source source.old source.new)
+        (IsDueTo (to_migrate name.now) (S.contents source.old) blocks.now.listed.items) }
+    ensures asks { AsksFrom (fault_in result)
+        (S.contents source.old) blocks.now.listed.items name.now (λ g. []) [] (S.asked source.old)
+        (S.asked source.new) }
 {
     let graph = match graph_at(alloc, source, name, blocks) {
         Ok(graph) => graph,

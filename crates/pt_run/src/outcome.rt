@@ -32,7 +32,27 @@ impl<C: Drop> Outcome<C> {
     }
 }
 
-/// The same without the clocks.
+/// Why a run did not finish, and the platforms that it leaves: none if it did not begin, or if memory ran out.
+#[derive(Drop)]
+pub struct Stopped {
+    pub fault: Fault,
+    pub platforms: Vec<Platform>,
+}
+
+impl Stopped {
+    /// A run that leaves no platforms.
+    pub(crate) fn with_nothing(alloc: Global, fault: Fault) -> Stopped
+        ensures fault { result.fault ≡ fault }
+        ensures nothing { result.platforms.items ≡ [] }
+    {
+        Stopped {
+            fault,
+            platforms: Vec::new(alloc),
+        }
+    }
+}
+
+/// How a call ended, without the clocks.
 #[derive(Drop)]
 pub struct Ending {
     pub status: u8,

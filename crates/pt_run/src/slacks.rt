@@ -2,7 +2,7 @@
 
 ghost use Rattle.std.specs.Prelude.{[], string_bytes};
 ghost use Rattle.pt_types.specs.Lawful.{IsLawful};
-ghost use Rattle.pt_sensors.specs.Asked.{Contents, Reading};
+ghost use Rattle.pt_io.specs.Calls.{Contents, Reading};
 ghost use Rattle.pt_words.specs.declared.orders.Command.TheVariants.{Slacks};
 ghost use Rattle.pt_run.specs.Due.{AnswersAsDue, IsDueFor, IsSlackedBy};
 
@@ -16,7 +16,8 @@ use std::alloc::Global;
 /// slacks in the graph are not used.
 pub fn slacks_answer(alloc: Global, graph: &Graph) -> Result<String, Fault>
     requires { IsLawful graph.now }
-    ensures { (tells : Contents) (r : Reading) → AnswersAsDue string_bytes result r (IsDueFor Slacks tells graph.now []) }
+    ensures { (contents : Contents) (r : Reading) →
+        AnswersAsDue string_bytes result r (IsDueFor Slacks contents graph.now []) }
 {
     match ranks_of(alloc, graph) {
         Ok(_ranks) => least_text(alloc, graph),

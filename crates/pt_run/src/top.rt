@@ -1,23 +1,24 @@
 //! The top call.
 
 ghost use Rattle.std.specs.Prelude.{◌≡◌, ◌≢◌, ◌↔◌, None, Some, [], flat_map, length, string_bytes};
-ghost use Rattle.pt_io.specs.Told.{tell};
+ghost use Rattle.pt_io.specs.Calls.{reading, writing};
+ghost use Rattle.pt_io.specs.Clocks.{viewed};
 ghost use Rattle.pt_types.specs.Lawful.{IsLawful};
 ghost use Rattle.pt_monitors.specs.Platforms.{missed_by};
 ghost use Rattle.pt_run.specs.Asks.{AsksFrom, AsksOf, AsksOver, actors_for};
 ghost use Rattle.pt_run.specs.Clocks.{AreBack, AreBackFor};
 ghost use Rattle.pt_run.specs.Complete.{IsComplete, IsCompleteByAnyClock};
 ghost use Rattle.pt_run.specs.declared.fault.Fault.TheVariants.{Memory};
-ghost use Rattle.pt_run.specs.Due.{IsDue, IsDueFor, UnlessMemory};
+ghost use Rattle.pt_run.specs.Due.{IsDue, IsDueFor, UnlessMemory, as_answer};
 ghost use Rattle.pt_run.specs.Exact.{IsExact};
 ghost use Rattle.pt_run.specs.InBounds.{IsCompleteInBounds};
 ghost use Rattle.pt_run.specs.OverFiles.{HasHeadline};
 ghost use Rattle.pt_run.specs.Statuses.{status_of};
 ghost use Rattle.pt_words.specs.Grammar.{order_of, over};
-ghost use Rattle.pt_run.specs.Making.{TellsOf};
+ghost use Rattle.pt_run.specs.Making.{ReportsOf};
 ghost use Rattle.pt_run.specs.Replaying.{IsReplayHeadline};
-ghost use Rattle.pt_run.specs.Telling.{Tells, TellsBy};
-ghost use Rattle.pt_run.specs.Texts.{PutsOrTells, left_at, left_of, left_over};
+ghost use Rattle.pt_run.specs.Reporting.{Reports, ReportsBy};
+ghost use Rattle.pt_run.specs.Texts.{PutsOrReports, left_at, left_of, left_over};
 
 use crate::admission::graph_at;
 use crate::audit::audit;
@@ -26,17 +27,16 @@ use crate::fault::Fault;
 use crate::make::make;
 use crate::meaning::meaning_answer;
 use crate::migrate::migrate;
-use crate::notes::{tell, tell_write};
+use crate::notes::{report, report_write};
 use crate::outcome::{Ending, Outcome};
-use crate::output::put_text;
-use crate::own_clocks::run_own;
+use crate::outputs::put_text;
 use crate::replay::replay;
 use crate::run::run_graph;
 use crate::slacks::slacks_answer;
 use pt_blocks::Blocks;
 use pt_io::{Clock, Sink, Source};
 use pt_types::Graph;
-use pt_words::{ClockChoice, Command, Order, order_of};
+use pt_words::{Command, Order, order};
 use std::alloc::Global;
 use std::sync::Wait;
 use std::thread::Threads;
@@ -68,51 +68,67 @@ pub fn ptides<S: Source, K: Sink, E: Sink, C: Clock + Send, R: Threads + Wait + 
     // call asks for all of these, with three exceptions: if its graph is refused, for the graph file alone; if the file or the rows of a
     // sensor are refused, for the graph file and then the sensors' files up to that one, its own included; and if memory runs out, for
     // some or all of these, from the first on, or for none.
-    ensures asks { AsksOf result.fault (order_of words.now) (S.tells source.old) blocks.now.listed.items
-        (record { asked_before = S.asked source.old; asked_now = S.asked source.new; before = S.faults source.old; now = S.faults source.new }) }
+    ensures asks { AsksOf result.fault (order_of words.now)
+        (S.contents source.old) blocks.now.listed.items
+        (reading S.Source source.old source.new) }
     // The headline: what a run has written, what it leaves, by which readings, and why it stopped.
-    ensures headline { HasHeadline result.fault (left_of result (order_of words.now) (tell C.told C.ahead clocks.items) (tell C.told C.ahead result.clocks.items)) (order_of words.now) (S.tells source.old) blocks.now.listed.items
-        (record { before = K.faults out.old; now = K.faults out.new; written_before = K.written out.old; written_now = K.written out.new }) }
+    ensures headline { HasHeadline result.fault
+        (left_of result (order_of words.now) (viewed C.readings C.ahead clocks.items)
+        (viewed C.readings C.ahead result.clocks.items)) (order_of words.now)
+        (S.contents source.old) blocks.now.listed.items
+        (writing K.Sink out.old out.new) }
     // The same of a replay: what it has written, what it leaves, by which lags and transits, and why it stopped.
-    ensures replay_headline { IsReplayHeadline result.fault (left_of result (order_of words.now) (tell C.told C.ahead clocks.items) (tell C.told C.ahead result.clocks.items)) (order_of words.now) (S.tells source.old) blocks.now.listed.items
-        (record { before = K.faults out.old; now = K.faults out.new; written_before = K.written out.old; written_now = K.written out.new }) }
+    ensures replay_headline { IsReplayHeadline result.fault
+        (left_of result (order_of words.now) (viewed C.readings C.ahead clocks.items)
+        (viewed C.readings C.ahead result.clocks.items)) (order_of words.now)
+        (S.contents source.old) blocks.now.listed.items
+        (writing K.Sink out.old out.new) }
     // The status is 5 exactly if all was written and something was missed, and the misses are those of the recorded turns.
     ensures missed { (result.status ≡ 5) ↔ ((result.fault ≡ None) × (result.misses ≢ [])) }
-    ensures misses { result.fault ≡ None → result.misses ≡ flat_map missed_by result.platforms.items }
+    ensures misses { result.fault ≡ None →
+        result.misses ≡ flat_map missed_by result.platforms.items }
     // All of it, for every command: at which stage it was refused, and why; or what it wrote and what it leaves.
-    ensures due { IsDue (order_of words.now) (S.tells source.old) blocks.now.listed.items (record {
-      fault = result.fault;
-      left = left_of result (order_of words.now) (tell C.told C.ahead clocks.items) (tell C.told C.ahead result.clocks.items);
-      read = record { asked_before = S.asked source.old; asked_now = S.asked source.new; before = S.faults source.old; now = S.faults source.new };
-      wrote = record { before = K.faults out.old; now = K.faults out.new; written_before = K.written out.old; written_now = K.written out.new };
-    }) }
+    ensures due { IsDue (order_of words.now) (S.contents source.old) blocks.now.listed.items
+        (as_answer result.fault
+        (left_of result (order_of words.now) (viewed C.readings C.ahead clocks.items)
+        (viewed C.readings C.ahead result.clocks.items))
+        (reading S.Source source.old source.new)
+        (writing K.Sink out.old out.new)) }
     // If the words and files with known contents decide which answer is due, the call ends with it, unless memory runs out or a read
     // fails. A cycle or a ring may then be another one, and instead of a text there may be a write fault. They decide each refusal of a
     // graph, of a sensor's rows, of a meaning that is too long, of a log and of a recording; and the texts of `check`, `meaning`,
     // `migrate`, `slacks` and `audit`. They do not decide how a run, a replay or `make` ends that is not refused so.
-    ensures exact { IsExact result.fault (order_of words.now) (S.tells source.old) blocks.now.listed.items }
+    ensures exact { IsExact result.fault (order_of words.now)
+        (S.contents source.old) blocks.now.listed.items }
     // A paced run, with any number of workers and with the log or without, has the status that the meaning of its program gives, if its
     // files' contents are known, its graph is admitted, each sensor's file has rows, none of which is late, and no read and no write
     // fails: 0; or 5 if an actuator acts after its deadline; or 6 if a platform has more firings of units than it may claim, whatever its
     // actuators do; or else memory ran out, and the status is 9.
-    ensures complete { IsComplete result.status (order_of words.now) (S.tells source.old) blocks.now.listed.items
-        (record { asked_before = S.asked source.old; asked_now = S.asked source.new; before = S.faults source.old; now = S.faults source.new })
-        (record { before = K.faults out.old; now = K.faults out.new; written_before = K.written out.old; written_now = K.written out.new }) }
+    ensures complete { IsComplete result.status (order_of words.now)
+        (S.contents source.old) blocks.now.listed.items
+        (reading S.Source source.old source.new)
+        (writing K.Sink out.old out.new) }
     // So ends a replay of such a program whose recording breaks no stated bound, by the same cases.
-    ensures complete_in_bounds { IsCompleteInBounds result.status (order_of words.now) (S.tells source.old) blocks.now.listed.items
-        (record { asked_before = S.asked source.old; asked_now = S.asked source.new; before = S.faults source.old; now = S.faults source.new })
-        (record { before = K.faults out.old; now = K.faults out.new; written_before = K.written out.old; written_now = K.written out.new }) }
+    ensures complete_in_bounds { IsCompleteInBounds result.status (order_of words.now)
+        (S.contents source.old) blocks.now.listed.items
+        (reading S.Source source.old source.new)
+        (writing K.Sink out.old out.new) }
     // By whatever clock, it finishes or its platforms show why not: by cases in `EndsAsShown`.
-    ensures complete_by_any_clock { IsCompleteByAnyClock result.fault (left_of result (order_of words.now) (tell C.told C.ahead clocks.items) (tell C.told C.ahead result.clocks.items)) (order_of words.now) (S.tells source.old) blocks.now.listed.items
-        (record { asked_before = S.asked source.old; asked_now = S.asked source.new; before = S.faults source.old; now = S.faults source.new })
-        (record { before = K.faults out.old; now = K.faults out.new; written_before = K.written out.old; written_now = K.written out.new }) }
+    ensures complete_by_any_clock { IsCompleteByAnyClock result.fault
+        (left_of result (order_of words.now) (viewed C.readings C.ahead clocks.items)
+        (viewed C.readings C.ahead result.clocks.items)) (order_of words.now)
+        (S.contents source.old) blocks.now.listed.items
+        (reading S.Source source.old source.new)
+        (writing K.Sink out.old out.new) }
     // Unless memory ran out, the clocks come back: as many after a run by the machine's clock, else as they were.
-    ensures clocks { result.fault ≢ Some Memory → AreBack (order_of words.now) result.fault clocks.items result.clocks.items }
+    ensures clocks { result.fault ≢ Some Memory →
+        AreBack (order_of words.now) result.fault clocks.items result.clocks.items }
     // Without a fault, all output is flushed.
     ensures flushed { result.fault ≡ None → K.flushed out.new }
     // What was put on `notes`.
-    ensures notes { TellsOf result.fault result.misses result.platforms.items (order_of words.now) (S.tells source.old) blocks.now.listed.items
-        (record { before = E.faults notes.old; now = E.faults notes.new; written_before = E.written notes.old; written_now = E.written notes.new }) }
+    ensures notes { ReportsOf result.fault result.misses result.platforms.items (order_of words.now)
+        (S.contents source.old) blocks.now.listed.items
+        (writing E.Sink notes.old notes.new) }
 {
     let mut handed = clocks;
     let ending = run_words(rt, alloc, words, source, out, notes, &mut handed, blocks);
@@ -138,20 +154,23 @@ fn run_words<S: Source, K: Sink, E: Sink, C: Clock + Send, R: Threads + Wait + S
 ) -> Ending
     requires clocks { length clocks.old.items ≡ 16 }
     ensures status { result.status ≡ status_of result.fault result.misses }
-    ensures asks { AsksOf result.fault (order_of words.now) (S.tells source.old) blocks.now.listed.items
-        (record { asked_before = S.asked source.old; asked_now = S.asked source.new; before = S.faults source.old; now = S.faults source.new }) }
-    ensures due { IsDue (order_of words.now) (S.tells source.old) blocks.now.listed.items (record {
-      fault = result.fault;
-      left = left_at result (order_of words.now) (tell C.told C.ahead clocks.old.items) (tell C.told C.ahead clocks.new.items);
-      read = record { asked_before = S.asked source.old; asked_now = S.asked source.new; before = S.faults source.old; now = S.faults source.new };
-      wrote = record { before = K.faults out.old; now = K.faults out.new; written_before = K.written out.old; written_now = K.written out.new };
-    }) }
-    ensures clocks { result.fault ≢ Some Memory → AreBack (order_of words.now) result.fault clocks.old.items clocks.new.items }
+    ensures asks { AsksOf result.fault (order_of words.now)
+        (S.contents source.old) blocks.now.listed.items
+        (reading S.Source source.old source.new) }
+    ensures due { IsDue (order_of words.now) (S.contents source.old) blocks.now.listed.items
+        (as_answer result.fault
+        (left_at result (order_of words.now) (viewed C.readings C.ahead clocks.old.items)
+        (viewed C.readings C.ahead clocks.new.items))
+        (reading S.Source source.old source.new)
+        (writing K.Sink out.old out.new)) }
+    ensures clocks { result.fault ≢ Some Memory →
+        AreBack (order_of words.now) result.fault clocks.old.items clocks.new.items }
     ensures flushed { result.fault ≡ None → K.flushed out.new }
-    ensures notes { TellsOf result.fault result.misses result.platforms.items (order_of words.now) (S.tells source.old) blocks.now.listed.items
-        (record { before = E.faults notes.old; now = E.faults notes.new; written_before = E.written notes.old; written_now = E.written notes.new }) }
+    ensures notes { ReportsOf result.fault result.misses result.platforms.items (order_of words.now)
+        (S.contents source.old) blocks.now.listed.items
+        (writing E.Sink notes.old notes.new) }
 {
-    let fault = match order_of(alloc, words) {
+    let fault = match order(alloc, words) {
         Ok(Some(Order::Over { command, graph })) => {
             return run_file(
                 rt, alloc, command, graph, source, out, notes, clocks, blocks,
@@ -181,7 +200,7 @@ fn run_words<S: Source, K: Sink, E: Sink, C: Clock + Send, R: Threads + Wait + S
         Ok(None) => Fault::Usage,
         Err(_) => Fault::Memory,
     };
-    let fault = tell(alloc, notes, fault, None);
+    let fault = report(alloc, notes, fault, None);
     Ending::refused(alloc, fault)
 }
 
@@ -199,17 +218,21 @@ fn run_file<S: Source, K: Sink, E: Sink, C: Clock + Send, R: Threads + Wait + Sy
 ) -> Ending
     requires clocks { length clocks.old.items ≡ 16 }
     ensures status { result.status ≡ status_of result.fault result.misses }
-    ensures asks { AsksFrom result.fault (S.tells source.old) blocks.now.listed.items name.now (actors_for command) [] (S.asked source.old) (S.asked source.new) }
-    ensures due { IsDue (Some (over command name.now)) (S.tells source.old) blocks.now.listed.items (record {
-      fault = result.fault;
-      left = left_over result command (tell C.told C.ahead clocks.old.items) (tell C.told C.ahead clocks.new.items);
-      read = record { asked_before = S.asked source.old; asked_now = S.asked source.new; before = S.faults source.old; now = S.faults source.new };
-      wrote = record { before = K.faults out.old; now = K.faults out.new; written_before = K.written out.old; written_now = K.written out.new };
-    }) }
-    ensures clocks { result.fault ≢ Some Memory → AreBackFor command result.fault clocks.old.items clocks.new.items }
+    ensures asks { AsksFrom result.fault (S.contents source.old) blocks.now.listed.items name.now
+        (actors_for command) [] (S.asked source.old) (S.asked source.new) }
+    ensures due { IsDue (Some (over command name.now))
+        (S.contents source.old) blocks.now.listed.items
+        (as_answer result.fault
+        (left_over result command (viewed C.readings C.ahead clocks.old.items)
+        (viewed C.readings C.ahead clocks.new.items))
+        (reading S.Source source.old source.new)
+        (writing K.Sink out.old out.new)) }
+    ensures clocks { result.fault ≢ Some Memory →
+        AreBackFor command result.fault clocks.old.items clocks.new.items }
     ensures flushed { result.fault ≡ None → K.flushed out.new }
-    ensures notes { TellsBy result.fault result.misses result.platforms.items (Some (command, name.now)) (S.tells source.old) blocks.now.listed.items
-        (record { before = E.faults notes.old; now = E.faults notes.new; written_before = E.written notes.old; written_now = E.written notes.new }) }
+    ensures notes { ReportsBy result.fault result.misses result.platforms.items
+        (Some (command, name.now)) (S.contents source.old) blocks.now.listed.items
+        (writing E.Sink notes.old notes.new) }
 {
     match graph_at(alloc, source, name, blocks) {
         Ok(graph) => {
@@ -218,7 +241,7 @@ fn run_file<S: Source, K: Sink, E: Sink, C: Clock + Send, R: Threads + Wait + Sy
             )
         }
         Err(fault) => {
-            let fault = tell(alloc, notes, fault, None);
+            let fault = report(alloc, notes, fault, None);
             Ending::refused(alloc, fault)
         }
     }
@@ -239,30 +262,31 @@ fn run_command<S: Source, K: Sink, E: Sink, C: Clock + Send, R: Threads + Wait +
     requires lawful { IsLawful graph }
     requires clocks { length clocks.old.items ≡ 16 }
     ensures status { result.status ≡ status_of result.fault result.misses }
-    ensures asks { AsksOver result.fault [] (actors_for command graph) [] (S.asked source.old) (S.asked source.new) }
-    ensures due { UnlessMemory (record {
-      fault = result.fault;
-      left = left_over result command (tell C.told C.ahead clocks.old.items) (tell C.told C.ahead clocks.new.items);
-      read = record { asked_before = S.asked source.old; asked_now = S.asked source.new; before = S.faults source.old; now = S.faults source.new };
-      wrote = record { before = K.faults out.old; now = K.faults out.new; written_before = K.written out.old; written_now = K.written out.new };
-    })
-        (IsDueFor command (S.tells source.old) graph []) }
-    ensures clocks { result.fault ≢ Some Memory → AreBackFor command result.fault clocks.old.items clocks.new.items }
+    ensures asks { AsksOver result.fault [] (actors_for command graph) [] (S.asked source.old)
+        (S.asked source.new) }
+    ensures due { UnlessMemory
+        (as_answer result.fault
+        (left_over result command (viewed C.readings C.ahead clocks.old.items)
+        (viewed C.readings C.ahead clocks.new.items))
+        (reading S.Source source.old source.new)
+        (writing K.Sink out.old out.new))
+        (IsDueFor command (S.contents source.old) graph []) }
+    ensures clocks { result.fault ≢ Some Memory →
+        AreBackFor command result.fault clocks.old.items clocks.new.items }
     ensures flushed { result.fault ≡ None → K.flushed out.new }
-    ensures notes { Tells result.fault result.misses (Some graph)
-        (record { before = E.faults notes.old; now = E.faults notes.new; written_before = E.written notes.old; written_now = E.written notes.new }) }
+    ensures notes { Reports result.fault result.misses (Some graph)
+        (writing E.Sink notes.old notes.new) }
 {
     match command {
         Command::Run {
             workers,
             clock,
             log,
-        } => match clock {
-            ClockChoice::Paced => run_graph(alloc, workers, log, graph, source, out, notes, blocks),
-            _ => run_own(
+        } => {
+            run_graph(
                 rt, alloc, workers, clock, log, graph, source, out, notes, clocks, blocks,
-            ),
-        },
+            )
+        }
         Command::Check => {
             let answer = check_answer(alloc, &graph);
             give(alloc, answer, &graph, out, notes)
@@ -287,23 +311,23 @@ fn give<K: Sink, E: Sink>(
     notes: &mut E,
 ) -> Ending
     ensures status { result.status ≡ status_of result.fault result.misses }
-    ensures gives { PutsOrTells string_bytes answer result
-        (record { before = K.faults out.old; now = K.faults out.new; written_before = K.written out.old; written_now = K.written out.new }) }
+    ensures gives { PutsOrReports string_bytes answer result
+        (writing K.Sink out.old out.new) }
     ensures flushed { result.fault ≡ None → K.flushed out.new }
-    ensures notes { Tells result.fault result.misses (Some graph.now)
-        (record { before = E.faults notes.old; now = E.faults notes.new; written_before = E.written notes.old; written_now = E.written notes.new }) }
+    ensures notes { Reports result.fault result.misses (Some graph.now)
+        (writing E.Sink notes.old notes.new) }
 {
     let text = match answer {
         Ok(text) => text,
         Err(fault) => {
-            let fault = tell(alloc, notes, fault, Some(graph));
+            let fault = report(alloc, notes, fault, Some(graph));
             return Ending::refused(alloc, fault);
         }
     };
     match put_text(out, text.as_str().as_bytes()) {
         Ok(()) => Ending::done(Vec::new(alloc), Vec::new(alloc)),
         Err(_) => {
-            tell_write(notes);
+            report_write(notes);
             Ending::refused(alloc, Fault::Write)
         }
     }

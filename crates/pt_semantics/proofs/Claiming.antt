@@ -4,7 +4,7 @@ use Rattle.std.proofs.lemmas.Bool.{and_from, false≢true, cond-true, cond-false
 use Rattle.pt_tags.specs.declared.tag.Tag.{Tag}
 use Rattle.pt_tags.specs.declared.tag.Delay.{Delay}
 use Rattle.pt_types.specs.declared.graph.Graph.{Graph}
-use Rattle.pt_types.specs.declared.graph.Unit.{Unit as Part}
+use Rattle.pt_types.specs.declared.graph.Unit.{Unit}
 use Rattle.pt_tags.specs.Tags.{Before, UpTo, same_tag, plus}
 use Rattle.pt_types.specs.Ports.{when}
 use Rattle.pt_semantics.specs.Lists.{IsIn}
@@ -28,17 +28,17 @@ use Rattle.pt_semantics.proofs.Lookups.{same_some, when_found, IsIn-append, IsIn
 use Rattle.pt_semantics.proofs.Floor.{plus_zero, put_other, put_same}
 
 -- one firing more at a unit
-abbrev pub more : Firings → Part → Firing → Firings
+abbrev pub more : Firings → Unit → Firing → Firings
 more c w x u = if same_part w u then c u ++ x ∷ [] else c u
 
-pub more_same : (c : Firings) (w u : Part) (x : Firing) → w ≡ u → more c w x u ≡ c u ++ x ∷ []
+pub more_same : (c : Firings) (w u : Unit) (x : Firing) → w ≡ u → more c w x u ≡ c u ++ x ∷ []
 more_same c w u x e = cond-true (same_part w u) (c u ++ x ∷ []) (c u) (subst (λ z. same_part w z ≡ true) e (same_part-refl w))
 
-pub more_other : (c : Firings) (w u : Part) (x : Firing) → w ≢ u → more c w x u ≡ c u
+pub more_other : (c : Firings) (w u : Unit) (x : Firing) → w ≢ u → more c w x u ≡ c u
 more_other c w u x ne = cond-false (same_part w u) (c u ++ x ∷ []) (c u) (same_part_not w u ne)
 
 -- a member after one more is a member before, or the new one
-pub more_found : (c : Firings) (w u : Part) (x y : Firing) → IsIn y (more c w x u) → IsIn y (c u) ⊎ ((w ≡ u) × (y ≡ x))
+pub more_found : (c : Firings) (w u : Unit) (x y : Firing) → IsIn y (more c w x u) → IsIn y (c u) ⊎ ((w ≡ u) × (y ≡ x))
 more_found c w u x y mem =
     ⊎_elim
     (λ (e : w ≡ u).
@@ -48,14 +48,14 @@ more_found c w u x y mem =
     (cases_part w u)
 
 -- an event of a unit waits at one of its ports
-pub record AtPort (g : Graph) (waits : Values) (u : Part) (t : Tag) : Type 0 where
+pub record AtPort (g : Graph) (waits : Values) (u : Unit) (t : Tag) : Type 0 where
   pub port : ℕ
   pub value : ℤ
   pub below : port < 8
   pub unit : at_input g u.actor port ≡ u
   pub waits_there : waits u.actor port t ≡ Some value
 
-pub event_found : (g : Graph) (waits : Values) (u : Part) (t : Tag) → HasEvent g waits u t → AtPort g waits u t
+pub event_found : (g : Graph) (waits : Values) (u : Unit) (t : Tag) → HasEvent g waits u t → AtPort g waits u t
 event_found g waits u t h =
     let f = eight_found (λ p. when (input_group (kind_of g u.actor) p == u.group) (waits u.actor p t)) h in
     let w = when_found (input_group (kind_of g u.actor) f.0 == u.group) (waits u.actor f.0 t) f.1 f.3 in
@@ -68,7 +68,7 @@ has_event g waits a p t v l h =
     (when-true (input_group (kind_of g a) p == input_group (kind_of g a) p) (waits a p t) (eq-eqb _ _ refl) ∙ h)
 
 -- what is left when a unit's events of a tag are taken
-pub without_found : (g : Graph) (waits : Values) (w : Part) (s : Tag) (a p : ℕ) (t : Tag) (v : ℤ) → without_unit g waits w s a p t ≡ Some v → (waits a p t ≡ Some v) × (at_input g a p ≡ w → s ≡ t → ⊥)
+pub without_found : (g : Graph) (waits : Values) (w : Unit) (s : Tag) (a p : ℕ) (t : Tag) (v : ℤ) → without_unit g waits w s a p t ≡ Some v → (waits a p t ≡ Some v) × (at_input g a p ≡ w → s ≡ t → ⊥)
 without_found g waits w s a p t v h =
     let f = when_found (not (same_part (at_input g a p) w && same_tag s t)) (waits a p t) v h in (
       f.1,
@@ -88,12 +88,12 @@ rising_push [] x r h = (tt, tt)
 rising_push (y ∷ xs) x r h = (Each-append _ xs (x ∷ []) r.0 (h y (inl refl), tt), rising_push xs x r.1 (λ z m. h z (inr m)))
 
 -- what a unit claimed before is below the tag that it claims now
-pub claimed_below : (g : Graph) (s : State) (c : Firings) (u : Part) (t : Tag) (x : Firing) → Floor g s c → HasEvent g s.waits u t → IsIn x (c u) → Before x.tag t
+pub claimed_below : (g : Graph) (s : State) (c : Firings) (u : Unit) (t : Tag) (x : Firing) → Floor g s c → HasEvent g s.waits u t → IsIn x (c u) → Before x.tag t
 claimed_below g s c u t x f has mem =
     let at = event_found g s.waits u t has in
     subst (λ z. Before x.tag z) (plus_zero t) (f.waits u.actor at.port t at.value [] u x at.below at.waits_there at.unit mem)
 
-pub floor_claim : (g : Graph) (s : State) (c : Firings) (w : Part) (task : Task) (r : ℕ) → Floor g s c → s.reading ≡ Some r → IsSafe g s.waits s.busy r w task.tag → Floor g (after_claim g s w task) (more c w (firing_by g task))
+pub floor_claim : (g : Graph) (s : State) (c : Firings) (w : Unit) (task : Task) (r : ℕ) → Floor g s c → s.reading ≡ Some r → IsSafe g s.waits s.busy r w task.tag → Floor g (after_claim g s w task) (more c w (firing_by g task))
 floor_claim g s c w task r f reading safe = record {
   waits = λ a p t v path u x lt found go mem.
       let left = without_found g s.waits w task.tag a p t v found in

@@ -6,7 +6,7 @@ use Rattle.pt_tags.specs.declared.tag.Delay.{Delay}
 use Rattle.pt_types.specs.declared.graph.Graph.{Graph}
 use Rattle.pt_types.specs.declared.graph.Link.{Link}
 use Rattle.pt_types.specs.declared.kind.Kind.TheVariants.{Sensor, Receive}
-use Rattle.pt_types.specs.declared.graph.Unit.{Unit as Part}
+use Rattle.pt_types.specs.declared.graph.Unit.{Unit}
 use Rattle.pt_tags.specs.Tags.{Before, UpTo, same_tag, plus, then, zero_delay}
 use Rattle.pt_types.specs.Ports.{when, at_port}
 use Rattle.pt_semantics.specs.Lists.{IsIn}
@@ -42,7 +42,7 @@ with_waits s waits = record s { waits = waits }
 
 -- new values are past what is claimed
 abbrev pub IsPast : Graph → Firings → Values → Type 0
-IsPast g claimed new = (a p : ℕ) (t : Tag) (v : ℤ) (path : List Edge) (u : Part) (x : Firing) → new a p t ≡ Some v → Goes g (at_input g a p) path u → IsIn x (claimed u) → Before x.tag (plus t (sum_along path))
+IsPast g claimed new = (a p : ℕ) (t : Tag) (v : ℤ) (path : List Edge) (u : Unit) (x : Firing) → new a p t ≡ Some v → Goes g (at_input g a p) path u → IsIn x (claimed u) → Before x.tag (plus t (sum_along path))
 
 pub plus_then : (t : Tag) (d e : Delay) → plus (plus t d) e ≡ plus t (then d e)
 plus_then t d e = grind arith
@@ -51,19 +51,19 @@ pub plus_zero : (t : Tag) → plus t zero_delay ≡ t
 plus_zero t = grind arith
 
 -- a path whose times are 0 leads to higher levels
-pub path_grows : (g : Graph) (level : ℕ → ℕ) → HasLevels g level → (path : List Edge) (x a : Part) → Goes g x path a → (sum_along path).time ≡ 0 → level x.actor ≤ level a.actor
-path_grows g level up [] x a go z = let e : x.actor ≡ a.actor = ap (λ (w : Part). w.actor) go in subst (λ n. level x.actor ≤ level n) e (omega arith)
+pub path_grows : (g : Graph) (level : ℕ → ℕ) → HasLevels g level → (path : List Edge) (x a : Unit) → Goes g x path a → (sum_along path).time ≡ 0 → level x.actor ≤ level a.actor
+path_grows g level up [] x a go z = let e : x.actor ≡ a.actor = ap (λ (w : Unit). w.actor) go in subst (λ n. level x.actor ≤ level n) e (omega arith)
 path_grows g level up (e ∷ path) x a (mem, src, go) z =
     let here : level e.from < level e.to = up e (IsIn-append_left e (wires g) (links g) mem) (omega arith) in
     let rest : level e.to ≤ level a.actor = path_grows g level up path (target g e) a go (omega arith) in
-    let es : e.from ≡ x.actor = ap (λ (w : Part). w.actor) src in
+    let es : e.from ≡ x.actor = ap (λ (w : Unit). w.actor) src in
     subst (λ n. level n ≤ level a.actor) es (omega arith)
 
-pub cycle_takes_time : (g : Graph) (level : ℕ → ℕ) → HasLevels g level → (e : Edge) (path : List Edge) (x : Part) → Goes g x (e ∷ path) x → (sum_along (e ∷ path)).time ≡ 0 → ⊥
+pub cycle_takes_time : (g : Graph) (level : ℕ → ℕ) → HasLevels g level → (e : Edge) (path : List Edge) (x : Unit) → Goes g x (e ∷ path) x → (sum_along (e ∷ path)).time ≡ 0 → ⊥
 cycle_takes_time g level up e path x (mem, src, go) z =
     let here : level e.from < level e.to = up e (IsIn-append_left e (wires g) (links g) mem) (omega arith) in
     let rest : level e.to ≤ level x.actor = path_grows g level up path (target g e) x go (omega arith) in
-    let es : level e.from ≡ level x.actor = ap (λ (w : Part). level w.actor) src in
+    let es : level e.from ≡ level x.actor = ap (λ (w : Unit). level w.actor) src in
     omega arith
 
 -- what comes in past the floor leaves it
@@ -118,7 +118,7 @@ end_is g e a p ea ep = ap₂ (λ b q. at_input g b q) (sym ea) (sym ep)
 pub past_own : (x tag : Tag) (d : Delay) → UpTo x tag → (d.time ≡ 0 → ⊥) → Before x (plus tag d)
 past_own x tag d h nz = grind arith
 
-pub going_past : (g : Graph) (level : ℕ → ℕ) (s : State) (c : Firings) (w : Part) (task : Task) (outputs : List (Option ℤ)) → HasLevels g level → Floor g s c → s.busy w ≡ Some task → IsPast g c (going g (wires g) (leaves_unit g w) task.tag outputs)
+pub going_past : (g : Graph) (level : ℕ → ℕ) (s : State) (c : Firings) (w : Unit) (task : Task) (outputs : List (Option ℤ)) → HasLevels g level → Floor g s c → s.busy w ≡ Some task → IsPast g c (going g (wires g) (leaves_unit g w) task.tag outputs)
 going_past g level s c w task outputs up f busy a p t v path u x found go mem =
     let went = going_found g (wires g) (leaves_unit g w) task.tag outputs a p t v found in
     let e : Edge = went.edge in
@@ -136,13 +136,13 @@ going_past g level s c w task outputs up f busy a p t v path u x found go mem =
     subst (λ z. Before x.tag (plus z (sum_along path))) went.when_is
     (subst (λ z. Before x.tag z) (sym (plus_then task.tag e.weight (sum_along path))) past)
 
-pub put_other : (busy : Part → Option Task) (w v : Part) (o : Option Task) → w ≢ v → put_busy busy w o v ≡ busy v
+pub put_other : (busy : Unit → Option Task) (w v : Unit) (o : Option Task) → w ≢ v → put_busy busy w o v ≡ busy v
 put_other busy w v o ne = cond-false (same_part w v) o (busy v) (same_part_not w v ne)
 
-pub put_same : (busy : Part → Option Task) (w v : Part) (o : Option Task) → w ≡ v → put_busy busy w o v ≡ o
+pub put_same : (busy : Unit → Option Task) (w v : Unit) (o : Option Task) → w ≡ v → put_busy busy w o v ≡ o
 put_same busy w v o e = cond-true (same_part w v) o (busy v) (subst (λ z. same_part w z ≡ true) e (same_part-refl w))
 
-pub put_none_found : (busy : Part → Option Task) (w v : Part) (task : Task) → put_busy busy w None v ≡ Some task → busy v ≡ Some task
+pub put_none_found : (busy : Unit → Option Task) (w v : Unit) (task : Task) → put_busy busy w None v ≡ Some task → busy v ≡ Some task
 put_none_found busy w v task h =
     ⊎_elim (λ (e : w ≡ v). absurd (none_some task (sym (put_same busy w v None e) ∙ h))) (λ (ne : w ≢ v). sym (put_other busy w v None ne) ∙ h) (cases_part w v)
 

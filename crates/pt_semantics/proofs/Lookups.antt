@@ -1,7 +1,7 @@
 -- The first value found along a list.
 use Rattle.std.proofs.Common.{◌≡◌, ℕ, zero, suc, ◌<◌, ◌==◌, ◌⊎◌, ◌≢◌, Bool, true, false, List, [], ◌∷◌, ◌++◌, Option, Some, None, ℤ, slice_get, arith, refl, sym, ap, ap₂, subst, ◌∙◌, inl, inr, ⊎_elim, eqb-true}
 use Rattle.std.proofs.lemmas.Bool.{cases_Bool, and_parts, and_from, false≢true}
-use Rattle.pt_types.specs.declared.graph.Unit.{Unit as Part}
+use Rattle.pt_types.specs.declared.graph.Unit.{Unit}
 use Rattle.pt_semantics.specs.Lists.{first_of, or_else, IsIn, Each}
 use Rattle.pt_types.specs.Ports.{when, eight, at_port}
 use Rattle.pt_semantics.specs.Firing.{any_present}
@@ -129,23 +129,23 @@ at_pick_or h k None = refl
 at_pick_or h k (Some x) = refl
 
 -- units
-pub same_part-refl : (u : Part) → same_part u u ≡ true
+pub same_part-refl : (u : Unit) → same_part u u ≡ true
 same_part-refl u = and_from (u.actor == u.actor) (u.group == u.group) (same_ℕ u.actor) (same_ℕ u.group)
   where
     same_ℕ : (n : ℕ) → (n == n) ≡ true
     same_ℕ n = grind arith
 
-pub same_part-true : (u v : Part) → same_part u v ≡ true → u ≡ v
+pub same_part-true : (u v : Unit) → same_part u v ≡ true → u ≡ v
 same_part-true u v h =
     let both = and_parts (u.actor == v.actor) (u.group == v.group) h in
     let ea : u.actor ≡ v.actor = eqb-true u.actor v.actor both.0 in
     let eg : u.group ≡ v.group = eqb-true u.group v.group both.1 in
     λ i. record { actor = ea i; group = eg i }
 
-pub same_part_not : (u v : Part) → u ≢ v → same_part u v ≡ false
+pub same_part_not : (u v : Unit) → u ≢ v → same_part u v ≡ false
 same_part_not u v h = ⊎_elim (λ (t : same_part u v ≡ true). absurd (h (same_part-true u v t))) (λ (f : same_part u v ≡ false). f) (cases_Bool (same_part u v))
 
-pub cases_part : (u v : Part) → (u ≡ v) ⊎ (u ≢ v)
+pub cases_part : (u v : Unit) → (u ≡ v) ⊎ (u ≢ v)
 cases_part u v = ⊎_elim (λ (t : same_part u v ≡ true). inl (same_part-true u v t)) (λ (f : same_part u v ≡ false). inr (λ e. false≢true (sym f ∙ subst (λ w. same_part u w ≡ true) e (same_part-refl u)))) (cases_Bool (same_part u v))
 
 -- eight ports

@@ -1,10 +1,10 @@
 -- A behaviour: what each unit of the graph does at each tag, given what the others do.
-use Rattle.std.specs.Prelude.{◌≡◌, ◌==◌, ◌&&◌, if◌then◌else◌, ◌∷◌, [], ℕ, ℤ, List, Option, Some, nat_lt, suc}
+use Rattle.std.specs.Prelude.{◌≡◌, ◌==◌, ◌&&◌, if◌then◌else◌, ◌∷◌, [], ℕ, ℤ, List, Option, Some, nat_lt, suc, ⊤}
 use Rattle.pt_tags.specs.Tags.{Before, plus, same_tag, tag_lt}
 use Rattle.pt_tags.specs.declared.tag.Tag.{Tag}
 use Rattle.pt_types.specs.declared.graph.Graph.{Graph}
 use Rattle.pt_types.specs.declared.kind.Kind.{Kind}
-use Rattle.pt_types.specs.declared.graph.Unit.{Unit as Part}
+use Rattle.pt_types.specs.declared.graph.Unit.{Unit}
 use Rattle.pt_types.specs.Ports.{at_port, when}
 use Rattle.pt_semantics.specs.Lists.{Each, IsIn, first_of, or_else}
 use Rattle.pt_semantics.specs.Edges.{Edge, edges, first_state}
@@ -23,11 +23,11 @@ pub record Firing : Type 0 where
 
 -- the firings of each unit, in order
 abbrev pub Firings : Type 0
-Firings = Part → List Firing
+Firings = Unit → List Firing
 
 -- the tags of a list of firings rise
 abbrev pub Rising : List Firing → Type 0
-Rising [] = Unit {0}
+Rising [] = ⊤
 Rising (x ∷ xs) = Each (λ (y : Firing). Before x.tag y.tag) xs × Rising xs
 
 -- the firing at a tag, if there is one
@@ -53,20 +53,20 @@ abbrev pub firing_of : Kind → Tag → ℤ → List (Option ℤ) → Option Fir
 firing_of kind t q inputs = when (any_present inputs) (Some (record { tag = t; inputs = inputs; before = q; after = (fired kind q inputs).state; outputs = (fired kind q inputs).outputs }))
 
 -- what a unit does at a tag, given what the others did and what it did before
-abbrev pub reaction : Graph → Values → Firings → Part → Tag → Option Firing
+abbrev pub reaction : Graph → Values → Firings → Unit → Tag → Option Firing
 reaction g given f u t = firing_of (kind_of g u.actor) t (state_before (first_state (kind_of g u.actor)) (f u) t) (unit_inputs g (comes g given f) u t)
 
 -- f is a behaviour on D: at each unit and tag where D holds, the unit fires exactly as its inputs require
-pub record Behaves (g : Graph) (given : Values) (D : Part → Tag → Type 0) (f : Firings) : Type 0 where
-  pub rising : (u : Part) → Rising (f u)
-  pub reacts : (u : Part) (t : Tag) → D u t → firing_at (f u) t ≡ reaction g given f u t
+pub record Behaves (g : Graph) (given : Values) (D : Unit → Tag → Type 0) (f : Firings) : Type 0 where
+  pub rising : (u : Unit) → Rising (f u)
+  pub reacts : (u : Unit) (t : Tag) → D u t → firing_at (f u) t ≡ reaction g given f u t
 
 -- D is closed: if it holds at a unit and tag, it holds at the unit's
 -- earlier tags, and at each unit and tag from which an edge leads there
-pub record IsClosed (g : Graph) (D : Part → Tag → Type 0) : Type 0 where
-  pub earlier : (u : Part) (s t : Tag) → Before s t → D u t → D u s
+pub record IsClosed (g : Graph) (D : Unit → Tag → Type 0) : Type 0 where
+  pub earlier : (u : Unit) (s t : Tag) → Before s t → D u t → D u s
   pub sources : (e : Edge) (s : Tag) → IsIn e (edges g) → D (target g e) (plus s e.weight) → D (source g e) s
 
 -- the domain of all units and tags
-abbrev pub Everywhere : Part → Tag → Type 0
-Everywhere u t = Unit {0}
+abbrev pub Everywhere : Unit → Tag → Type 0
+Everywhere u t = ⊤

@@ -4,7 +4,7 @@ use Rattle.pt_types.specs.declared.graph.Graph.{Graph}
 use Rattle.pt_types.specs.declared.kind.Kind.{Kind}
 use Rattle.pt_types.specs.declared.graph.Link.{Link}
 use Rattle.pt_types.specs.declared.graph.PairError.{PairError}
-use Rattle.pt_types.specs.declared.graph.Unit.{Unit as Part}
+use Rattle.pt_types.specs.declared.graph.Unit.{Unit}
 use Rattle.pt_types.specs.declared.kind.Kind.TheVariants.{Receive, Sensor}
 use Rattle.pt_types.specs.Ports.{when}
 use Rattle.pt_semantics.specs.Edges.{Edge}
@@ -36,6 +36,6 @@ abbrev pub bound_of : Graph → ℕ → Option ℕ
 bound_of g a = bound_by g a (kind_of g a)
 
 -- a path leads from a sensor or receiver s with bound b to unit a
-pub record Feeds (g : Graph) (s b : ℕ) (path : List Edge) (a : Part) : Type 0 where
+pub record Feeds (g : Graph) (s b : ℕ) (path : List Edge) (a : Unit) : Type 0 where
   pub bound : bound_of g s ≡ Some b
   pub goes : Goes g (at_output g s 0) path a

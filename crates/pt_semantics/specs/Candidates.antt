@@ -1,8 +1,8 @@
 -- All claims of a turn at once.
-use Rattle.std.specs.Prelude.{◌≡◌, ◌<◌, ◌∷◌, ◌≤◌, ◌⊎◌, [], ℕ, ℤ, List, Option, drop, length, suc, take, true}
+use Rattle.std.specs.Prelude.{◌≡◌, ◌<◌, ◌∷◌, ◌≤◌, ◌⊎◌, [], ℕ, ℤ, List, Option, drop, length, suc, take, true, ⊤}
 use Rattle.pt_tags.specs.declared.tag.Tag.{Tag}
 use Rattle.pt_types.specs.declared.graph.Graph.{Graph}
-use Rattle.pt_types.specs.declared.graph.Unit.{Unit as Part}
+use Rattle.pt_types.specs.declared.graph.Unit.{Unit}
 use Rattle.pt_types.specs.declared.firing.Task.{Task}
 use Rattle.pt_semantics.specs.Claiming.{Claims, after_claim}
 use Rattle.pt_semantics.specs.Lists.{Each, IsIn}
@@ -12,11 +12,10 @@ use Rattle.pt_semantics.specs.Platform.{State}
 use Rattle.pt_semantics.specs.Turn.{Turn}
 use Rattle.pt_semantics.specs.History.{claims_of}
 use Rattle.pt_semantics.specs.Units.{unit_inputs, unit_of}
-use Rattle.pt_types.specs.Limits.{most_claims}
 
 -- a unit that can be claimed, and the tag
 pub record Candidate : Type 0 where
-  pub unit : Part
+  pub unit : Unit
   pub tag : Tag
 
 -- the first candidate comes before the second: by tag, then actor, then group
@@ -25,14 +24,14 @@ IsClaimedBefore c d = (c.tag.time ≤ d.tag.time) × (d.tag.time ≤ c.tag.time 
 
 -- the list is in the order of tag, actor and group
 abbrev pub InClaimOrder : List Candidate → Type 0
-InClaimOrder [] = Unit {0}
+InClaimOrder [] = ⊤
 InClaimOrder (c ∷ cs) = Each (IsClaimedBefore c) cs × InClaimOrder cs
 
 -- these are all units that are safe at a reading, each with its least tag, in the order of tag, actor and group
 pub record AreCandidates (g : Graph) (s : State) (r : ℕ) (cs : List Candidate) : Type 0 where
   pub in_order : InClaimOrder cs
   pub safe : (c : Candidate) → IsIn c cs → IsSafe g s.waits s.busy r c.unit c.tag
-  pub all : (u : Part) (t : Tag) → IsSafe g s.waits s.busy r u t → IsIn (record { unit = u; tag = t }) cs
+  pub all : (u : Unit) (t : Tag) → IsSafe g s.waits s.busy r u t → IsIn (record { unit = u; tag = t }) cs
 
 -- the task of a candidate that is claimed as number n
 abbrev pub task_of : Graph → State → ℕ → Candidate → Task
@@ -55,16 +54,16 @@ pub record ClaimsAreFronts (g : Graph) (s : State) (r : ℕ) (cs : List Candidat
   pub fronts : (tasks : List Task) (new : State) → Claims g r s tasks new → (length tasks ≤ length cs) × (tasks ≡ tasks_of g s s.claims (take (length tasks) cs)) × (new ≡ after_claims g s tasks)
   pub left : (k : ℕ) → AreCandidates g (after_claims g s (tasks_of g s s.claims (take k cs))) r (drop k cs)
 
--- what a turn claims: all safe units in order, or the first of them, cut at `most` tasks or at 200,000 claims
+-- what a turn claims: all safe units in order, or the first of them, cut at `most` tasks or at the graph's number of claims
 pub record AreCut (g : Graph) (s : State) (r most : ℕ) (tasks : List Task) : Type 0 where
   pub claims : Claims g r s tasks (after_claims g s tasks)
   pub at_most : length tasks ≤ most
-  pub in_all : (after_claims g s tasks).claims ≤ most_claims
-  pub greedy : tasks ≡ [] → NothingSafe g (after_claims g s tasks).waits (after_claims g s tasks).busy r ⊎ (most_claims ≤ s.claims)
-  pub all_or : NothingSafe g (after_claims g s tasks).waits (after_claims g s tasks).busy r ⊎ ((most ≤ length tasks) ⊎ (most_claims ≤ (after_claims g s tasks).claims))
+  pub in_all : (after_claims g s tasks).claims ≤ g.claims
+  pub greedy : tasks ≡ [] → NothingSafe g (after_claims g s tasks).waits (after_claims g s tasks).busy r ⊎ (g.claims ≤ s.claims)
+  pub all_or : NothingSafe g (after_claims g s tasks).waits (after_claims g s tasks).busy r ⊎ ((most ≤ length tasks) ⊎ (g.claims ≤ (after_claims g s tasks).claims))
 
 -- these turns claim unit u at tag t, with these inputs
-pub record IsClaimed (g : Graph) (turns : List Turn) (u : Part) (t : Tag) (inputs : List (Option ℤ)) : Type 0 where
+pub record IsClaimed (g : Graph) (turns : List Turn) (u : Unit) (t : Tag) (inputs : List (Option ℤ)) : Type 0 where
   pub firing : Firing
   pub claimed : IsIn firing (claims_of g turns u)
   pub tag : firing.tag ≡ t
@@ -76,4 +75,4 @@ pub data HasMoved (g : Graph) (s : State) (turn : Turn) (ready new : State) : Ty
   Entered : (turn.rows ≡ [] → ⊥) → HasMoved g s turn ready new
   Claimed : (turn.claimed ≡ [] → ⊥) → HasMoved g s turn ready new
   Closed : new.closed ≡ true → HasMoved g s turn ready new
-  Full : most_claims ≤ s.claims → (NothingSafe g ready.waits ready.busy turn.last → ⊥) → HasMoved g s turn ready new
+  Full : g.claims ≤ s.claims → (NothingSafe g ready.waits ready.busy turn.last → ⊥) → HasMoved g s turn ready new

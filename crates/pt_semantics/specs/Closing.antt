@@ -6,7 +6,7 @@ use Rattle.pt_tags.specs.declared.message.Message.TheVariants.{End}
 use Rattle.pt_types.specs.declared.graph.Graph.{Graph}
 use Rattle.pt_types.specs.declared.graph.Link.{Link}
 use Rattle.pt_types.specs.declared.firing.OnLink.{OnLink}
-use Rattle.pt_types.specs.declared.graph.Unit.{Unit as Part}
+use Rattle.pt_types.specs.declared.graph.Unit.{Unit}
 use Rattle.pt_types.specs.Ports.{when}
 use Rattle.pt_semantics.specs.Platform.{State}
 use Rattle.pt_semantics.specs.Bounds.{bound_of}
@@ -18,7 +18,7 @@ pub record CanClose (g : Graph) (i : ℕ) (s : State) (r : ℕ) : Type 0 where
   pub was_open : s.closed ≡ false
   pub bounds : (x b : ℕ) → platform_of g x ≡ i → bound_of g x ≡ Some b → g.until + b < r
   pub nothing_waits : (a p : ℕ) (t : Tag) → s.waits a p t ≡ None
-  pub nothing_open : (u : Part) → s.busy u ≡ None
+  pub nothing_open : (u : Unit) → s.busy u ≡ None
   pub nothing_to_send : (l : ℕ) → s.outbox l ≡ []
 
 -- the message `End` if the link leads from platform i, else nothing

@@ -7,7 +7,7 @@ use Rattle.pt_types.specs.declared.firing.Done.{Done}
 use Rattle.pt_types.specs.declared.graph.Graph.{Graph}
 use Rattle.pt_types.specs.declared.graph.Link.{Link}
 use Rattle.pt_types.specs.declared.firing.OnLink.{OnLink}
-use Rattle.pt_types.specs.declared.graph.Unit.{Unit as Part}
+use Rattle.pt_types.specs.declared.graph.Unit.{Unit}
 use Rattle.pt_types.specs.declared.firing.Task.{Task}
 use Rattle.pt_types.specs.Ports.{when}
 use Rattle.pt_semantics.specs.Edges.{Edge, wires}
@@ -28,16 +28,16 @@ use Rattle.pt_semantics.specs.Ranks.{sum_along}
 -- the floor under the claims: no event can still come to a unit at or before a tag that it has claimed
 pub record Floor (g : Graph) (s : State) (claimed : Firings) : Type 0 where
   -- if an event waits at a unit that a path joins to u, its tag plus the path's delay is after all that u has claimed
-  pub waits : (a p : ℕ) (t : Tag) (v : ℤ) (path : List Edge) (u : Part) (x : Firing) → p < 8 → s.waits a p t ≡ Some v → Goes g (at_input g a p) path u → IsIn x (claimed u) → Before x.tag (plus t (sum_along path))
+  pub waits : (a p : ℕ) (t : Tag) (v : ℤ) (path : List Edge) (u : Unit) (x : Firing) → p < 8 → s.waits a p t ≡ Some v → Goes g (at_input g a p) path u → IsIn x (claimed u) → Before x.tag (plus t (sum_along path))
   -- the same for each open claim of another unit
-  pub open_elsewhere : (w : Part) (task : Task) (path : List Edge) (u : Part) (x : Firing) → s.busy w ≡ Some task → w ≢ u → Goes g w path u → IsIn x (claimed u) → Before x.tag (plus task.tag (sum_along path))
+  pub open_elsewhere : (w : Unit) (task : Task) (path : List Edge) (u : Unit) (x : Firing) → s.busy w ≡ Some task → w ≢ u → Goes g w path u → IsIn x (claimed u) → Before x.tag (plus task.tag (sum_along path))
   -- the open claim of u itself is the last of its claims
-  pub open_here : (u : Part) (task : Task) (x : Firing) → s.busy u ≡ Some task → IsIn x (claimed u) → UpTo x.tag task.tag
-  pub open_claimed : (u : Part) (task : Task) → s.busy u ≡ Some task → IsIn (firing_by g task) (claimed u)
+  pub open_here : (u : Unit) (task : Task) (x : Firing) → s.busy u ≡ Some task → IsIn x (claimed u) → UpTo x.tag task.tag
+  pub open_claimed : (u : Unit) (task : Task) → s.busy u ≡ Some task → IsIn (firing_by g task) (claimed u)
   -- no sensor or receiver can still give u an event at a tag that u has claimed, or before: the last reading is too late
-  pub sources : (a b : ℕ) (path : List Edge) (u : Part) (x : Firing) → Feeds g a b path u → IsIn x (claimed u) → (r : ℕ) × (s.reading ≡ Some r) × (x.tag.time + b < r + (sum_along path).time)
+  pub sources : (a b : ℕ) (path : List Edge) (u : Unit) (x : Firing) → Feeds g a b path u → IsIn x (claimed u) → (r : ℕ) × (s.reading ≡ Some r) × (x.tag.time + b < r + (sum_along path).time)
   -- the tags of a unit's claims rise
-  pub rises : (u : Part) → Rising (claimed u)
+  pub rises : (u : Unit) → Rising (claimed u)
 
 -- a tag at an actor is bounded: its time by the horizon, its step by its time and the actor's level
 abbrev pub IsBounded : Graph → (ℕ → ℕ) → ℕ → Tag → Type 0
@@ -46,8 +46,8 @@ IsBounded g level a t = (t.time ≤ g.until) × (t.step ≤ length g.actors * t.
 -- all pending events, open claims and past claims are bounded in this way
 pub record Bounded (g : Graph) (level : ℕ → ℕ) (s : State) (claimed : Firings) : Type 0 where
   pub waits : (a p : ℕ) (t : Tag) (v : ℤ) → s.waits a p t ≡ Some v → IsBounded g level a t
-  pub busy : (u : Part) (task : Task) → s.busy u ≡ Some task → IsBounded g level u.actor task.tag
-  pub claims : (u : Part) (x : Firing) → IsIn x (claimed u) → IsBounded g level u.actor x.tag
+  pub busy : (u : Unit) (task : Task) → s.busy u ≡ Some task → IsBounded g level u.actor task.tag
+  pub claims : (u : Unit) (x : Firing) → IsIn x (claimed u) → IsBounded g level u.actor x.tag
 
 -- no new value comes to an input that has a value of that tag
 abbrev pub NothingThere : Values → Values → Type 0

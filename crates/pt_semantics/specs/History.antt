@@ -1,7 +1,7 @@
 -- Legal histories and their claims.
-use Rattle.std.specs.Prelude.{◌≡◌, ◌<◌, ◌∷◌, ◌≤◌, ◌-◌, ◌^◌, [], ℕ, Bool, List, Option, Some, false, filter_map, flat_map, true}
+use Rattle.std.specs.Prelude.{◌≡◌, ◌<◌, ◌∷◌, ◌≤◌, ◌-◌, ◌^◌, [], ℕ, Bool, List, Option, Some, false, filter_map, flat_map, true, ⊤}
 use Rattle.pt_types.specs.declared.graph.Graph.{Graph}
-use Rattle.pt_types.specs.declared.graph.Unit.{Unit as Part}
+use Rattle.pt_types.specs.declared.graph.Unit.{Unit}
 use Rattle.pt_types.specs.declared.rows.Row.{Row}
 use Rattle.pt_types.specs.declared.firing.Task.{Task}
 use Rattle.pt_types.specs.Ports.{when}
@@ -32,9 +32,9 @@ IsCounted turn =
 
 -- of two quiet turns in a row, the first has the greatest count or the second is the last turn
 abbrev pub AreJoined : List Turn → Type 0
-AreJoined [] = Unit {0}
-AreJoined (x ∷ []) = Unit {0}
-AreJoined (x ∷ y ∷ []) = Unit {0}
+AreJoined [] = ⊤
+AreJoined (x ∷ []) = ⊤
+AreJoined (x ∷ y ∷ []) = ⊤
 AreJoined (x ∷ y ∷ z ∷ rest) = (is_quiet x ≡ true → is_quiet y ≡ true → x.count ≡ 2 ^ 64 - 1) × AreJoined (y ∷ z ∷ rest)
 
 -- a legal history of platform i, and the state after it
@@ -54,9 +54,9 @@ firing_by g task = record {
 }
 
 -- the firing of a task, if the task is of this unit
-abbrev pub of_unit : Graph → Part → Task → Option Firing
+abbrev pub of_unit : Graph → Unit → Task → Option Firing
 of_unit g u task = when (same_part (unit_of g task) u) (Some (firing_by g task))
 
 -- the firings of a unit that a history claimed, in order
-abbrev pub claims_of : Graph → List Turn → Part → List Firing
+abbrev pub claims_of : Graph → List Turn → Unit → List Firing
 claims_of g turns u = flat_map (λ (turn : Turn). filter_map (of_unit g u) turn.claimed) turns

@@ -39,3 +39,6 @@ pub mod FixedOrder
 pub mod Counts
 pub mod CycleTheorems
 pub mod Tables
+pub mod Arrivals
+pub mod RecordedTimes
+pub mod TrueTime

@@ -3,7 +3,7 @@ use Rattle.std.specs.Prelude.{◌≡◌, ◌∷◌, ◌≤◌, ◌+ℤ◌, ◌+�
 use Rattle.pt_tags.specs.declared.tag.Tag.{Tag}
 use Rattle.pt_tags.specs.Tags.{UpTo}
 use Rattle.pt_types.specs.declared.graph.Graph.{Graph}
-use Rattle.pt_types.specs.declared.graph.Unit.{Unit as Part}
+use Rattle.pt_types.specs.declared.graph.Unit.{Unit}
 use Rattle.pt_types.specs.declared.rows.Row.{Row}
 use Rattle.pt_semantics.specs.Units.{HasEvent}
 use Rattle.pt_semantics.specs.Offsets.{HasOffset}
@@ -22,7 +22,7 @@ paced_by None t = 0
 paced_by (Some o) t = at_least_zero ((pos t.time +ℤ o) +ℤ pos 1)
 
 -- c is the paced reading of unit u at tag t
-abbrev pub IsPaced : Graph → Part → Tag → ℕ → Type 0
+abbrev pub IsPaced : Graph → Unit → Tag → ℕ → Type 0
 IsPaced g u t c = (o : Option ℤ) × HasOffset g u o × (c ≡ paced_by o t)
 
 -- c is the closing reading of platform i: the greatest of horizon plus
@@ -36,7 +36,7 @@ IsClosing g i c =
 abbrev pub IsCandidate : Graph → ℕ → State → ℕ → Type 0
 IsCandidate g i s c =
     ((a : ℕ) × (row : Row) × (rest : List Row) × (s.left a ≡ row ∷ rest) × (c ≡ row.seen))
-    ⊎ (((u : Part) × (t : Tag) × HasEvent g s.waits u t × ((w : Tag) → HasEvent g s.waits u w → UpTo t w) × (s.busy u ≡ None) × IsPaced g u t c) ⊎ IsClosing g i c)
+    ⊎ (((u : Unit) × (t : Tag) × HasEvent g s.waits u t × ((w : Tag) → HasEvent g s.waits u w → UpTo t w) × (s.busy u ≡ None) × IsPaced g u t c) ⊎ IsClosing g i c)
 
 -- the next reading of a platform that is not closed: the least such reading
 abbrev pub IsNextReading : Graph → ℕ → State → ℕ → Type 0
@@ -44,5 +44,5 @@ IsNextReading g i s c = IsCandidate g i s c × ((d : ℕ) → IsCandidate g i s 
 
 -- the paced reading of unit u at tag t is at most c; on these
 -- units and tags paced histories are settled after the rounds at c
-abbrev pub paced_test : (Part → Option ℤ) → ℕ → Part → Tag → Bool
+abbrev pub paced_test : (Unit → Option ℤ) → ℕ → Unit → Tag → Bool
 paced_test offset c u t = nat_le (paced_by (offset u) t) c

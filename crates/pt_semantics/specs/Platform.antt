@@ -2,7 +2,7 @@
 use Rattle.std.specs.Prelude.{◌==◌, ◌&&◌, if◌then◌else◌, [], ℕ, ℤ, Bool, List, None, Option, Some, false}
 use Rattle.pt_tags.specs.declared.message.Message.{Message}
 use Rattle.pt_types.specs.declared.graph.Graph.{Graph}
-use Rattle.pt_types.specs.declared.graph.Unit.{Unit as Part}
+use Rattle.pt_types.specs.declared.graph.Unit.{Unit}
 use Rattle.pt_types.specs.declared.rows.Row.{Row}
 use Rattle.pt_types.specs.declared.firing.Task.{Task}
 use Rattle.pt_types.specs.Ports.{when}
@@ -16,7 +16,7 @@ use Rattle.pt_semantics.specs.Units.{same_part}
 -- whether it is closed, and the number of claims so far
 pub record State : Type 0 where
   pub waits : Values
-  pub busy : Part → Option Task
+  pub busy : Unit → Option Task
   pub states : ℕ → ℤ
   pub left : ℕ → List Row
   pub outbox : ℕ → List Message
@@ -40,7 +40,7 @@ opened g i rows = record {
 }
 
 -- the open claims, with that of unit u set to x
-abbrev pub put_busy : (Part → Option Task) → Part → Option Task → Part → Option Task
+abbrev pub put_busy : (Unit → Option Task) → Unit → Option Task → Unit → Option Task
 put_busy busy u x v = if same_part u v then x else busy v
 
 -- the state with last reading r

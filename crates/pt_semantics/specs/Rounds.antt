@@ -5,7 +5,7 @@ use Rattle.pt_tags.specs.declared.tag.Tag.{Tag}
 use Rattle.pt_types.specs.declared.firing.Done.{Done}
 use Rattle.pt_types.specs.declared.graph.Graph.{Graph}
 use Rattle.pt_types.specs.declared.graph.Link.{Link}
-use Rattle.pt_types.specs.declared.graph.Unit.{Unit as Part}
+use Rattle.pt_types.specs.declared.graph.Unit.{Unit}
 use Rattle.pt_types.specs.declared.rows.Row.{Row}
 use Rattle.pt_types.specs.declared.firing.Task.{Task}
 use Rattle.pt_semantics.specs.Lists.{Each, IsIn}
@@ -79,7 +79,7 @@ abbrev pub ArePaced : Graph → (ℕ → ℕ) → (ℕ → List Row) → (ℕ �
 ArePaced g level rows histories = (y : Together) × IsWholeRun g level rows y × ((i : ℕ) → i < length g.platforms → histories i ≡ kept (y.did i))
 
 -- the turn claims and posts at paced readings alone, and sends no message later than its sender's slack allows
-pub record IsTimely (g : Graph) (offset : Part → Option ℤ) (turn : Turn) : Type 0 where
+pub record IsTimely (g : Graph) (offset : Unit → Option ℤ) (turn : Turn) : Type 0 where
   pub claims : Each (λ (task : Task). turn.last ≡ paced_by (offset (unit_of g task)) task.tag) turn.claimed
   pub posts : Each (λ (d : Done). turn.last ≡ paced_by (offset (unit_of g d.task)) d.task.tag) turn.posted
   pub sends : (l : ℕ) (link : Link) (t : Tag) (v : ℤ) → slice_get g.links l ≡ Some link → IsIn (Event t v) (on_link l turn.sent) → turn.last ≤ t.time + slack_of (kind_of g link.from)

@@ -12,7 +12,6 @@ use Rattle.pt_semantics.specs.Posting.{Posts}
 use Rattle.pt_semantics.specs.Platform.{State, raised}
 use Rattle.pt_semantics.specs.Taking.{Takes}
 use Rattle.pt_semantics.specs.Entering.{after_rows, all_due}
-use Rattle.pt_types.specs.Limits.{most_claims}
 
 -- a turn as a history records it: its first and last reading, how many turns were joined to it, and what was posted,
 -- entered, taken, claimed and sent
@@ -43,8 +42,8 @@ pub record IsTurn (g : Graph) (level : ℕ → ℕ) (i : ℕ) (s : State) (turn 
   pub ready : State
   pub claims : Claims g turn.last (raised got turn.last) turn.claimed ready
   pub idle_if_late : late ≡ true → turn.claimed ≡ []
-  pub greedy : turn.claimed ≡ [] → (late ≡ true) ⊎ (NothingSafe g ready.waits ready.busy turn.last ⊎ (most_claims ≤ s.claims))
-  pub at_most : (length turn.claimed ≤ 64) × (ready.claims ≤ most_claims)
+  pub greedy : turn.claimed ≡ [] → (late ≡ true) ⊎ (NothingSafe g ready.waits ready.busy turn.last ⊎ (g.claims ≤ s.claims))
+  pub at_most : (length turn.claimed ≤ 64) × (ready.claims ≤ g.claims)
   -- close, and send
   pub done : State
   pub closes : Closes g i ready turn.last late done
@@ -52,7 +51,7 @@ pub record IsTurn (g : Graph) (level : ℕ → ℕ) (i : ℕ) (s : State) (turn 
 
 -- no turn follows this one: a message was late, or all claims were made before it and a unit is still safe
 abbrev pub IsLast : Graph → State → ℕ → Bool → State → Type 0
-IsLast g s r late ready = (late ≡ true) ⊎ ((most_claims ≤ s.claims) × (NothingSafe g ready.waits ready.busy r → ⊥))
+IsLast g s r late ready = (late ≡ true) ⊎ ((g.claims ≤ s.claims) × (NothingSafe g ready.waits ready.busy r → ⊥))
 
 -- the list is empty
 abbrev pub is_empty : {X : Type 0} → List X → Bool

@@ -1,9 +1,9 @@
 -- All platforms together, and one visit of one of them by an engine.
-use Rattle.std.specs.Prelude.{◌^◌, ◌≡◌, ◌<◌, ◌∷◌, ◌≤◌, ◌≢◌, ◌++◌, ◌⊎◌, [], ℕ, Bool, List, None, Some, false, length, slice_get, take, true}
+use Rattle.std.specs.Prelude.{◌^◌, ◌≡◌, ◌==◌, ◌<◌, ◌∷◌, ◌≤◌, ◌≢◌, ◌++◌, ◌⊎◌, [], ℕ, Bool, List, Option, None, Some, false, length, slice_get, take, true, ⊤}
 use Rattle.pt_tags.specs.declared.message.Message.{Message}
 use Rattle.pt_types.specs.declared.graph.Graph.{Graph}
 use Rattle.pt_types.specs.declared.graph.Link.{Link}
-use Rattle.pt_types.specs.declared.graph.Unit.{Unit as Part}
+use Rattle.pt_types.specs.declared.graph.Unit.{Unit}
 use Rattle.pt_types.specs.declared.rows.Row.{Row}
 use Rattle.pt_types.specs.declared.firing.Done.{Done}
 use Rattle.pt_types.specs.declared.firing.OnLink.{OnLink}
@@ -14,7 +14,6 @@ use Rattle.pt_semantics.specs.Safe.{NothingSafe}
 use Rattle.pt_semantics.specs.Closing.{on_link}
 use Rattle.pt_semantics.specs.Turn.{IsLast, IsTurn, Turn}
 use Rattle.pt_semantics.specs.Linked.{IsFinished}
-use Rattle.pt_types.specs.Limits.{most_claims}
 
 -- all platforms together: their states, their turns one by one, and the messages on each link that were sent and not taken
 pub record Together : Type 0 where
@@ -30,6 +29,11 @@ together_at_start g rows = record { at = λ i. opened g i rows; did = λ i. []; 
 abbrev pub AreFinished : Graph → Together → Type 0
 AreFinished g x = (i : ℕ) → i < length g.platforms → IsFinished g i (x.at i)
 
+-- whether this link leads to platform i
+abbrev pub leads_to : Graph → ℕ → Option Link → Bool
+leads_to g i None = false
+leads_to g i (Some link) = platform_of g link.to == i
+
 -- a turn of a platform, whether it took a late message, and whether the platform has a fault after it
 pub record Made : Type 0 where
   pub platform : ℕ
@@ -39,12 +43,12 @@ pub record Made : Type 0 where
 
 -- the results are in the order of their claims
 abbrev pub NumbersRise : List Done → Type 0
-NumbersRise [] = Unit {0}
+NumbersRise [] = ⊤
 NumbersRise (d ∷ ds) = Each (λ (e : Done). d.task.number < e.task.number) ds × NumbersRise ds
 
 -- the messages are in the order of their links
 abbrev pub LinkByLink : List OnLink → Type 0
-LinkByLink [] = Unit {0}
+LinkByLink [] = ⊤
 LinkByLink (m ∷ ms) = Each (λ (n : OnLink). m.link ≤ n.link) ms × LinkByLink ms
 
 -- a visit of a platform at reading r: one turn that posts all its open claims, takes all messages on their way to it and
@@ -60,7 +64,7 @@ pub record IsVisit (g : Graph) (level : ℕ → ℕ) (most : ℕ) (room : ℕ �
   pub others : (j : ℕ) → j ≢ m.platform → (y.at j ≡ x.at j) × (y.did j ≡ x.did j)
   pub joins : y.did m.platform ≡ x.did m.platform ++ m.turn ∷ []
   -- the results of all open claims are posted, in the order of their claims
-  pub handed : (u : Part) → is.posted.busy u ≡ None
+  pub handed : (u : Unit) → is.posted.busy u ≡ None
   pub in_order : NumbersRise m.turn.posted
   -- messages are taken link by link: all of them, or all up to a late one
   pub rest : ℕ → List Message
@@ -70,7 +74,7 @@ pub record IsVisit (g : Graph) (level : ℕ → ℕ) (most : ℕ) (room : ℕ �
   pub takes_by_link : LinkByLink m.turn.taken
   -- it claims the safe units in order, until `most` are claimed, none is left, or all claims are made
   pub claims_most : length m.turn.claimed ≤ most
-  pub claims_all : m.late ≡ false → NothingSafe g is.ready.waits is.ready.busy r ⊎ ((most ≤ length m.turn.claimed) ⊎ (most_claims ≤ is.ready.claims))
+  pub claims_all : m.late ≡ false → NothingSafe g is.ready.waits is.ready.busy r ⊎ ((most ≤ length m.turn.claimed) ⊎ (g.claims ≤ is.ready.claims))
   -- messages that are sent are added to those on their way
   pub sends : (l : ℕ) → y.on_way l ≡ rest l ++ on_link l m.turn.sent
   pub sends_all : (l : ℕ) → on_link l m.turn.sent ≡ take (room l) (is.done.outbox l)

@@ -1,6 +1,6 @@
 //! The definitions: what a program means and what a platform may do. This crate has no code that runs. The definitions are
 //! in `specs/`. Each function has a theorem as its contract, about cycles or lawful graphs (`CycleTheorems`,
-//! `LawfulGraphs`). The other theorems are in pt_laws and pt_schedule.
+//! `LawfulGraphs`). The other theorems are in pt_laws and pt_paced_laws.
 //!
 //! Read `specs/` in this order. The order of tags is in `Tags` of
 //! pt_tags; ports and lookups are in `Ports` and `Lookups` of pt_types.

@@ -13,7 +13,7 @@ use Rattle.pt_types.specs.Lookups.{kind_of}
 use Rattle.pt_semantics.specs.Lists.{Each}
 use Rattle.pt_semantics.specs.Meaning.{rows_until}
 use Rattle.pt_semantics.specs.Rows.{FitRows, FitsRow, NeverFalls, TimesRise}
-use Rattle.pt_sensors.specs.Asked.{Contents}
+use Rattle.pt_io.specs.Calls.{Contents}
 use Rattle.pt_sensors.specs.Places.{of_run}
 use Rattle.pt_sensors.specs.Recorded.{InTime, RowsOfKind}
 
@@ -124,13 +124,13 @@ sensor_fits g a file bound (row ∷ rows) sensor h =
 no_rows : (g : Graph) (a : ℕ) (rows : List Row) → rows ≡ [] → Each (FitsRow g a) (rows_until g.until rows)
 no_rows g a rows none = subst (λ z. Each (FitsRow g a) (rows_until g.until z)) (sym none) tt
 
-kind_fits : (tells : Contents) (g : Graph) (a : ℕ) (k : Kind) (rows : List Row) → kind_of g a ≡ k → RowsOfKind tells k rows → InTime g.until k rows → Each (FitsRow g a) (rows_until g.until rows)
-kind_fits tells g a (kind.Sensor file bound) rows is has in_time = sensor_fits g a file bound rows is (none_late bound g.until rows in_time)
-kind_fits tells g a _ rows is has in_time = no_rows g a rows has
+kind_fits : (contents : Contents) (g : Graph) (a : ℕ) (k : Kind) (rows : List Row) → kind_of g a ≡ k → RowsOfKind contents k rows → InTime g.until k rows → Each (FitsRow g a) (rows_until g.until rows)
+kind_fits contents g a (kind.Sensor file bound) rows is has in_time = sensor_fits g a file bound rows is (none_late bound g.until rows in_time)
+kind_fits contents g a _ rows is has in_time = no_rows g a rows has
 
-pub all_fit : (tells : Contents) (g : Graph) (rows : ℕ → List Row) → ((a : ℕ) → RowsOfKind tells (kind_of g a) (rows a)) → ((a : ℕ) → InTime g.until (kind_of g a) (rows a)) → ((a : ℕ) → RowsAreInOrder (rows a)) → FitRows g (of_run g rows)
-all_fit tells g rows has in_time order = record {
-  fit = λ a. kind_fits tells g a (kind_of g a) (rows a) refl (has a) (in_time a);
+pub all_fit : (contents : Contents) (g : Graph) (rows : ℕ → List Row) → ((a : ℕ) → RowsOfKind contents (kind_of g a) (rows a)) → ((a : ℕ) → InTime g.until (kind_of g a) (rows a)) → ((a : ℕ) → RowsAreInOrder (rows a)) → FitRows g (of_run g rows)
+all_fit contents g rows has in_time order = record {
+  fit = λ a. kind_fits contents g a (kind_of g a) (rows a) refl (has a) (in_time a);
   in_order = λ a. never_falls_filtered (λ (row : Row). nat_le row.time g.until) (rows a) (never_falls None (rows a) (order a).order);
   times = λ a. rises_filtered (λ (row : Row). nat_le row.time g.until) (rows a) (times_rise None (rows a) (order a).order);
 }

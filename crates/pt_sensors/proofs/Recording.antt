@@ -20,7 +20,8 @@ use Rattle.pt_sensors.specs.declared.recorded_fault.LateRows.{LateRows}
 use Rattle.pt_sensors.specs.declared.recorded_fault.LateRows.TheVariants as late
 use Rattle.pt_sensors.specs.declared.recorded_fault.RecordedFault.{RecordedFault}
 use Rattle.pt_sensors.specs.declared.recorded_fault.RecordedFault.TheVariants as fault
-use Rattle.pt_sensors.specs.Asked.{Asks, Contents, ReadFails, Reading, files_before}
+use Rattle.pt_sensors.specs.Asked.{Asks, ReadFails, files_before}
+use Rattle.pt_io.specs.Calls.{Contents, Reading}
 use Rattle.pt_sensors.specs.Recorded.{AllPass, AreRows, CauseOfRows, HaveRows, RowsPass, RowsOfKind, SensorFails, SensorLate, SensorUnread}
 use Rattle.pt_sensors.specs.Files.{CauseOfActor, CauseOfFile, IsSensorWith}
 use Rattle.pt_sensors.specs.Faults.{fault_of_sensor}
@@ -46,14 +47,14 @@ rows_new : (xs : List SensorRows) (s : SensorRows) (a : ℕ) → s.actor ≡ a �
 rows_new xs s a is none = rows_push xs s a ∙ ap₂ (λ front ys. front ++ ys) none (here (s.actor == a) s.rows (eq-eqb s.actor a is))
 
 -- an actor has its rows, and none of them is refused
-pub record HasRows (l : LateRows) (tells : Contents) (g : Graph) (a : ℕ) (rows : List Row) : Type 0 where
-  pub kind : RowsOfKind tells (kind_of g a) rows
+pub record HasRows (l : LateRows) (contents : Contents) (g : Graph) (a : ℕ) (rows : List Row) : Type 0 where
+  pub kind : RowsOfKind contents (kind_of g a) rows
   pub passes : RowsPass l g.until (kind_of g a) rows
   pub order : RowsAreInOrder rows
 
 -- the entries of the first n actors
-pub record AreFirstRows (l : LateRows) (tells : Contents) (g : Graph) (xs : List SensorRows) (n : ℕ) : Type 0 where
-  pub rows : (a : ℕ) → a < n → HasRows l tells g a (rows_for xs a)
+pub record AreFirstRows (l : LateRows) (contents : Contents) (g : Graph) (xs : List SensorRows) (n : ℕ) : Type 0 where
+  pub rows : (a : ℕ) → a < n → HasRows l contents g a (rows_for xs a)
   pub past : (a : ℕ) → n ≤ a → rows_for xs a ≡ []
   pub actors : Each (IsOfActors (length g.actors)) xs
   pub count : length xs ≡ n
@@ -80,12 +81,12 @@ pushed_at (x ∷ xs) s (suc k) z at = ⊎_elim (λ (old : slice_get xs k ≡ Som
 length_push : (xs : List SensorRows) (s : SensorRows) → length (xs ++ s ∷ []) ≡ length xs + 1
 length_push xs s = length-append xs (s ∷ [])
 
-pub first_rows_more : (l : LateRows) (tells : Contents) (g : Graph) (xs : List SensorRows) (n : ℕ) (s : SensorRows) → AreFirstRows l tells g xs n → s.actor ≡ n → n < length g.actors → HasRows l tells g n s.rows
-    → AreFirstRows l tells g (xs ++ s ∷ []) (n + 1)
-first_rows_more l tells g xs n s are is within has = record {
+pub first_rows_more : (l : LateRows) (contents : Contents) (g : Graph) (xs : List SensorRows) (n : ℕ) (s : SensorRows) → AreFirstRows l contents g xs n → s.actor ≡ n → n < length g.actors → HasRows l contents g n s.rows
+    → AreFirstRows l contents g (xs ++ s ∷ []) (n + 1)
+first_rows_more l contents g xs n s are is within has = record {
   rows = λ a lt. ⊎_elim
-      (λ (lower : a < n). subst (HasRows l tells g a) (sym (rows_same xs s a (λ e. let both : n ≡ a = sym is ∙ e in absurd (omega (arith, both, lower))))) (are.rows a lower))
-      (λ (e : a ≡ n). subst (λ z. HasRows l tells g z (rows_for (xs ++ s ∷ []) z)) (sym e) (subst (HasRows l tells g n) (sym (rows_new xs s n is (are.past n (omega arith)))) has))
+      (λ (lower : a < n). subst (HasRows l contents g a) (sym (rows_same xs s a (λ e. let both : n ≡ a = sym is ∙ e in absurd (omega (arith, both, lower))))) (are.rows a lower))
+      (λ (e : a ≡ n). subst (λ z. HasRows l contents g z (rows_for (xs ++ s ∷ []) z)) (sym e) (subst (HasRows l contents g n) (sym (rows_new xs s n is (are.past n (omega arith)))) has))
       (cases a n lt);
   past = λ a le. rows_same xs s a (λ e. let both : n ≡ a = sym is ∙ e in absurd (omega (arith, both, le))) ∙ are.past a (omega (arith, le));
   actors = each_push (IsOfActors (length g.actors)) xs s are.actors (subst (λ z. z < length g.actors) (sym is) within);
@@ -94,72 +95,72 @@ first_rows_more l tells g xs n s are is within has = record {
 }
 
 -- past the last actor nobody has rows
-all_rows : (l : LateRows) (tells : Contents) (g : Graph) (xs : List SensorRows) (n : ℕ) → AreFirstRows l tells g xs n → length g.actors ≤ n → (a : ℕ) → HasRows l tells g a (rows_for xs a)
-all_rows l tells g xs n are whole a = by_test (nat_lt a n) refl
+all_rows : (l : LateRows) (contents : Contents) (g : Graph) (xs : List SensorRows) (n : ℕ) → AreFirstRows l contents g xs n → length g.actors ≤ n → (a : ℕ) → HasRows l contents g a (rows_for xs a)
+all_rows l contents g xs n are whole a = by_test (nat_lt a n) refl
   where
     nobody : (m : LateRows) (rows : List Row) → rows ≡ [] → RowsPass m g.until no_actor.kind rows
     nobody late.Refused rows none = tt
     nobody late.Taken rows none = tt
 
-    by_test : (b : Bool) → nat_lt a n ≡ b → HasRows l tells g a (rows_for xs a)
+    by_test : (b : Bool) → nat_lt a n ≡ b → HasRows l contents g a (rows_for xs a)
     by_test true e = are.rows a (grind (arith, nat_tests))
     by_test false e =
         let le : n ≤ a = grind (arith, nat_tests) in
         let past : length g.actors ≤ a = omega (arith, le, whole) in
         let none = are.past a le in
         record {
-          kind = subst (λ (x : Actor). RowsOfKind tells x.kind (rows_for xs a)) (sym (get_or_past g.actors a no_actor past)) none;
+          kind = subst (λ (x : Actor). RowsOfKind contents x.kind (rows_for xs a)) (sym (get_or_past g.actors a no_actor past)) none;
           passes = subst (λ (x : Actor). RowsPass l g.until x.kind (rows_for xs a)) (sym (get_or_past g.actors a no_actor past)) (nobody l (rows_for xs a) none);
           order = subst RowsAreInOrder (sym none) (record { most = omega arith; order = tt });
         }
 
-pub are_rows : (l : LateRows) (tells : Contents) (g : Graph) (xs : List SensorRows) (n : ℕ) → AreFirstRows l tells g xs n → length g.actors ≤ n → AreRows tells g (rows_for xs)
-are_rows l tells g xs n are whole a = (all_rows l tells g xs n are whole a).kind
+pub are_rows : (l : LateRows) (contents : Contents) (g : Graph) (xs : List SensorRows) (n : ℕ) → AreFirstRows l contents g xs n → length g.actors ≤ n → AreRows contents g (rows_for xs)
+are_rows l contents g xs n are whole a = (all_rows l contents g xs n are whole a).kind
 
-pub all_pass : (l : LateRows) (tells : Contents) (g : Graph) (xs : List SensorRows) (n : ℕ) → AreFirstRows l tells g xs n → length g.actors ≤ n → AllPass l g (rows_for xs)
-all_pass l tells g xs n are whole a = (all_rows l tells g xs n are whole a).passes
+pub all_pass : (l : LateRows) (contents : Contents) (g : Graph) (xs : List SensorRows) (n : ℕ) → AreFirstRows l contents g xs n → length g.actors ≤ n → AllPass l g (rows_for xs)
+all_pass l contents g xs n are whole a = (all_rows l contents g xs n are whole a).passes
 
-pub stand_in_place : (l : LateRows) (tells : Contents) (g : Graph) (xs : List SensorRows) (n : ℕ) → AreFirstRows l tells g xs n → n ≡ length g.actors → StandInPlace g xs
-stand_in_place l tells g xs n are whole = record { count = are.count ∙ whole; places = are.places }
+pub stand_in_place : (l : LateRows) (contents : Contents) (g : Graph) (xs : List SensorRows) (n : ℕ) → AreFirstRows l contents g xs n → n ≡ length g.actors → StandInPlace g xs
+stand_in_place l contents g xs n are whole = record { count = are.count ∙ whole; places = are.places }
 
-pub fit_rows : (tells : Contents) (g : Graph) (xs : List SensorRows) (n : ℕ) → AreFirstRows late.Refused tells g xs n → length g.actors ≤ n → FitRows g (of_run g (rows_for xs))
-fit_rows tells g xs n are whole = all_fit tells g (rows_for xs) (λ a. (all_rows late.Refused tells g xs n are whole a).kind) (λ a. (all_rows late.Refused tells g xs n are whole a).passes) (λ a. (all_rows late.Refused tells g xs n are whole a).order)
+pub fit_rows : (contents : Contents) (g : Graph) (xs : List SensorRows) (n : ℕ) → AreFirstRows late.Refused contents g xs n → length g.actors ≤ n → FitRows g (of_run g (rows_for xs))
+fit_rows contents g xs n are whole = all_fit contents g (rows_for xs) (λ a. (all_rows late.Refused contents g xs n are whole a).kind) (λ a. (all_rows late.Refused contents g xs n are whole a).passes) (λ a. (all_rows late.Refused contents g xs n are whole a).order)
 
 -- a fault of a sensor's file
-pub rows_fail : (tells : Contents) (actor : ℕ) (file : List ℕ) (f : RowFault) (r : Reading) → (f ≢ row.Memory → IfSome (tells file) (λ bytes. rows_of bytes ≡ Err f))
-    → CauseOfFile actor (fault_of_sensor actor f) tells file r
-rows_fail tells actor file row.Memory r h = tt
-rows_fail tells actor file row.TooLong r h = (refl, h (λ e. absurd cc))
-rows_fail tells actor file row.Header r h = (refl, h (λ e. absurd cc))
-rows_fail tells actor file (row.Fields n) r h = (refl, h (λ e. absurd cc))
-rows_fail tells actor file (row.Number n) r h = (refl, h (λ e. absurd cc))
-rows_fail tells actor file (row.TimeOrder n) r h = (refl, h (λ e. absurd cc))
-rows_fail tells actor file (row.SeenOrder n) r h = (refl, h (λ e. absurd cc))
-rows_fail tells actor file (row.SeenEarly n) r h = (refl, h (λ e. absurd cc))
-rows_fail tells actor file row.TooManyRows r h = (refl, h (λ e. absurd cc))
+pub rows_fail : (contents : Contents) (actor : ℕ) (file : List ℕ) (f : RowFault) (r : Reading) → (f ≢ row.Memory → IfSome (contents file) (λ bytes. rows_of bytes ≡ Err f))
+    → CauseOfFile actor (fault_of_sensor actor f) contents file r
+rows_fail contents actor file row.Memory r h = tt
+rows_fail contents actor file row.TooLong r h = (refl, h (λ e. absurd cc))
+rows_fail contents actor file row.Header r h = (refl, h (λ e. absurd cc))
+rows_fail contents actor file (row.Fields n) r h = (refl, h (λ e. absurd cc))
+rows_fail contents actor file (row.Number n) r h = (refl, h (λ e. absurd cc))
+rows_fail contents actor file (row.TimeOrder n) r h = (refl, h (λ e. absurd cc))
+rows_fail contents actor file (row.SeenOrder n) r h = (refl, h (λ e. absurd cc))
+rows_fail contents actor file (row.SeenEarly n) r h = (refl, h (λ e. absurd cc))
+rows_fail contents actor file row.TooManyRows r h = (refl, h (λ e. absurd cc))
 
 -- the file's fault is the actor's
-pub file_fails : (l : LateRows) (tells : Contents) (g : Graph) (actor : ℕ) (file : List ℕ) (bound : ℕ) (f : RecordedFault) (r : Reading) → kind_of g actor ≡ Sensor file bound → CauseOfFile actor f tells file r → CauseOfActor l f tells g actor r
-file_fails l tells g actor file bound fault.Memory r kind h = tt
-file_fails l tells g actor file bound (fault.Read named) r kind h = (h.0, (file, bound, kind, h.1))
-file_fails l tells g actor file bound (fault.Sensor named f) r kind h = (h.0, (file, bound, kind, h.1))
-file_fails l tells g actor file bound (fault.Late named row seen limit) r kind h = absurd h
+pub file_fails : (l : LateRows) (contents : Contents) (g : Graph) (actor : ℕ) (file : List ℕ) (bound : ℕ) (f : RecordedFault) (r : Reading) → kind_of g actor ≡ Sensor file bound → CauseOfFile actor f contents file r → CauseOfActor l f contents g actor r
+file_fails l contents g actor file bound fault.Memory r kind h = tt
+file_fails l contents g actor file bound (fault.Read named) r kind h = (h.0, (file, bound, kind, h.1))
+file_fails l contents g actor file bound (fault.Sensor named f) r kind h = (h.0, (file, bound, kind, h.1))
+file_fails l contents g actor file bound (fault.Late named row seen limit) r kind h = absurd h
 
 -- the actors before have rows
-have_rows : (l : LateRows) (tells : Contents) (g : Graph) (xs : List SensorRows) (n : ℕ) → AreFirstRows l tells g xs n → HaveRows l tells g n
-have_rows l tells g xs n are a lt = (rows_for xs a, (are.rows a lt).kind, (are.rows a lt).passes)
+have_rows : (l : LateRows) (contents : Contents) (g : Graph) (xs : List SensorRows) (n : ℕ) → AreFirstRows l contents g xs n → HaveRows l contents g n
+have_rows l contents g xs n are a lt = (rows_for xs a, (are.rows a lt).kind, (are.rows a lt).passes)
 
 -- why one actor gave no rows, after the actors before it gave theirs
-module _ (l : LateRows) (tells : Contents) (g : Graph) (xs : List SensorRows) (n : ℕ) (first asked now : Option (List (List ℕ))) (start before last : ℕ) where
+module _ (l : LateRows) (contents : Contents) (g : Graph) (xs : List SensorRows) (n : ℕ) (first asked now : Option (List (List ℕ))) (start before last : ℕ) where
   abbrev late_reading : Reading
   late_reading = record { asked_before = asked; asked_now = now; before = before; now = last }
 
   abbrev whole_reading : Reading
   whole_reading = record { asked_before = first; asked_now = now; before = start; now = last }
 
-  unread : AreFirstRows l tells g xs n → Asks first asked (files_before g n) → start ≤ before → IsSensorWith g n (λ file bound. ReadFails [] file late_reading) → SensorUnread l tells g n [] whole_reading
+  unread : AreFirstRows l contents g xs n → Asks first asked (files_before g n) → start ≤ before → IsSensorWith g n (λ file bound. ReadFails [] file late_reading) → SensorUnread l contents g n [] whole_reading
   unread are asks grew cause = record {
-    earlier = have_rows l tells g xs n are;
+    earlier = have_rows l contents g xs n are;
     file = cause.0;
     bound = cause.1;
     sensor = cause.2;
@@ -167,15 +168,15 @@ module _ (l : LateRows) (tells : Contents) (g : Graph) (xs : List SensorRows) (n
         (read_after (files_before g n) [] cause.0 first asked now start before last asks grew cause.3);
   }
 
-  by_fault : (f : RecordedFault) → AreFirstRows l tells g xs n → Asks first asked (files_before g n) → start ≤ before → CauseOfActor l f tells g n late_reading → CauseOfRows l f tells g [] whole_reading
+  by_fault : (f : RecordedFault) → AreFirstRows l contents g xs n → Asks first asked (files_before g n) → start ≤ before → CauseOfActor l f contents g n late_reading → CauseOfRows l f contents g [] whole_reading
   by_fault fault.Memory are asks grew cause = tt
-  by_fault (fault.Read named) are asks grew cause = subst (λ a. SensorUnread l tells g a [] whole_reading) (sym cause.0) (unread are asks grew cause.1)
+  by_fault (fault.Read named) are asks grew cause = subst (λ a. SensorUnread l contents g a [] whole_reading) (sym cause.0) (unread are asks grew cause.1)
   by_fault (fault.Sensor named f) are asks grew cause =
-      subst (λ a. SensorFails l tells g a f) (sym cause.0) (record { earlier = have_rows l tells g xs n are; file = cause.1.0; bound = cause.1.1; sensor = cause.1.2; fails = cause.1.3 })
+      subst (λ a. SensorFails l contents g a f) (sym cause.0) (record { earlier = have_rows l contents g xs n are; file = cause.1.0; bound = cause.1.1; sensor = cause.1.2; fails = cause.1.3 })
   by_fault (fault.Late named row seen limit) are asks grew cause = (
     cause.1,
-    subst (λ a. SensorLate tells g a row seen limit) (sym cause.0) (record {
-      earlier = subst (λ m. HaveRows m tells g n) cause.1 (have_rows l tells g xs n are);
+    subst (λ a. SensorLate contents g a row seen limit) (sym cause.0) (record {
+      earlier = subst (λ m. HaveRows m contents g n) cause.1 (have_rows l contents g xs n are);
       file = cause.2.0;
       bound = cause.2.1;
       sensor = cause.2.2;
@@ -185,7 +186,7 @@ module _ (l : LateRows) (tells : Contents) (g : Graph) (xs : List SensorRows) (n
     }),
   )
 
-pub later : (l : LateRows) (tells told : Contents) (g : Graph) (xs : List SensorRows) (n : ℕ) (first asked now : Option (List (List ℕ))) (start before last : ℕ) (f : RecordedFault) → told ≡ tells → AreFirstRows l tells g xs n → Asks first asked (files_before g n) → start ≤ before
-    → CauseOfActor l f told g n (record { asked_before = asked; asked_now = now; before = before; now = last }) → CauseOfRows l f tells g [] (record { asked_before = first; asked_now = now; before = start; now = last })
-later l tells told g xs n first asked now start before last f same are asks grew cause =
-    by_fault l tells g xs n first asked now start before last f are asks grew (subst (λ t. CauseOfActor l f t g n (record { asked_before = asked; asked_now = now; before = before; now = last })) same cause)
+pub later : (l : LateRows) (contents told : Contents) (g : Graph) (xs : List SensorRows) (n : ℕ) (first asked now : Option (List (List ℕ))) (start before last : ℕ) (f : RecordedFault) → told ≡ contents → AreFirstRows l contents g xs n → Asks first asked (files_before g n) → start ≤ before
+    → CauseOfActor l f told g n (record { asked_before = asked; asked_now = now; before = before; now = last }) → CauseOfRows l f contents g [] (record { asked_before = first; asked_now = now; before = start; now = last })
+later l contents told g xs n first asked now start before last f same are asks grew cause =
+    by_fault l contents g xs n first asked now start before last f are asks grew (subst (λ t. CauseOfActor l f t g n (record { asked_before = asked; asked_now = now; before = before; now = last })) same cause)

@@ -1,5 +1,6 @@
 -- The files that a source was asked for.
 use Rattle.std.specs.Prelude.{◌≡◌, ◌⊎◌, ℕ, ◌+◌, List, [], ◌∷◌, ◌++◌, Option, Some, IfSome, take}
+use Rattle.pt_io.specs.Calls.{Reading}
 use Rattle.pt_io.specs.Causes.{Rose}
 use Rattle.pt_types.specs.declared.graph.Graph.{Graph}
 use Rattle.pt_types.specs.declared.graph.Actor.{Actor}
@@ -7,17 +8,6 @@ use Rattle.pt_types.specs.declared.kind.Kind.{Kind}
 use Rattle.pt_types.specs.declared.kind.Kind.TheVariants.{Sensor}
 use Rattle.pt_sensors.specs.declared.recorded_fault.RecordedFault.{RecordedFault}
 use Rattle.pt_sensors.specs.declared.recorded_fault.RecordedFault.TheVariants as fault
-
--- the contents that a source reports, by name
-abbrev pub Contents : Type 0
-Contents = List ℕ → Option (List ℕ)
-
--- what a call on a source did: the names asked for and the count of faults, before and after
-pub record Reading : Type 0 where
-  pub asked_before : Option (List (List ℕ))
-  pub asked_now : Option (List (List ℕ))
-  pub before : ℕ
-  pub now : ℕ
 
 -- these names were asked for, in this order, if the source reports names
 abbrev pub Asks : Option (List (List ℕ)) → Option (List (List ℕ)) → List (List ℕ) → Type 0

@@ -9,15 +9,16 @@ use Rattle.pt_sensors.specs.declared.recorded_fault.LateRows.{LateRows}
 use Rattle.pt_sensors.specs.declared.recorded_fault.LateRows.TheVariants as late
 use Rattle.pt_sensors.specs.declared.recorded_fault.RecordedFault.{RecordedFault}
 use Rattle.pt_sensors.specs.declared.recorded_fault.RecordedFault.TheVariants as fault
-use Rattle.pt_sensors.specs.Asked.{Contents, Reading, ReadFails}
+use Rattle.pt_sensors.specs.Asked.{ReadFails}
+use Rattle.pt_io.specs.Calls.{Contents, Reading}
 use Rattle.pt_sensors.specs.Recorded.{IsLateRow}
 
 -- why the file with this name gave no rows
 abbrev pub CauseOfFile : ℕ → RecordedFault → Contents → List ℕ → Reading → Type 0
-CauseOfFile actor fault.Memory tells file r = Unit {0}
-CauseOfFile actor (fault.Read named) tells file r = (named ≡ actor) × ReadFails [] file r
-CauseOfFile actor (fault.Sensor named f) tells file r = (named ≡ actor) × IfSome (tells file) (λ bytes. rows_of bytes ≡ Err f)
-CauseOfFile actor (fault.Late named row seen limit) tells file r = ⊥
+CauseOfFile actor fault.Memory contents file r = Unit {0}
+CauseOfFile actor (fault.Read named) contents file r = (named ≡ actor) × ReadFails [] file r
+CauseOfFile actor (fault.Sensor named f) contents file r = (named ≡ actor) × IfSome (contents file) (λ bytes. rows_of bytes ≡ Err f)
+CauseOfFile actor (fault.Late named row seen limit) contents file r = ⊥
 
 -- the fault is that of the first late row of these rows
 abbrev pub IsLateFault : RecordedFault → ℕ → List Row → ℕ → ℕ → Type 0
@@ -30,8 +31,8 @@ IsSensorWith g actor Fact = (file : List ℕ) × (bound : ℕ) × (kind_of g act
 
 -- why an actor gave no rows
 abbrev pub CauseOfActor : LateRows → RecordedFault → Contents → Graph → ℕ → Reading → Type 0
-CauseOfActor l fault.Memory tells g actor r = Unit {0}
-CauseOfActor l (fault.Read named) tells g actor r = (named ≡ actor) × IsSensorWith g actor (λ file bound. ReadFails [] file r)
-CauseOfActor l (fault.Sensor named f) tells g actor r = (named ≡ actor) × IsSensorWith g actor (λ file bound. IfSome (tells file) (λ bytes. rows_of bytes ≡ Err f))
-CauseOfActor l (fault.Late named row seen limit) tells g actor r =
-    (named ≡ actor) × (l ≡ late.Refused) × IsSensorWith g actor (λ file bound. (rows : List Row) × IfSome (tells file) (λ bytes. rows_of bytes ≡ Ok rows) × IsLateRow rows g.until bound row seen limit)
+CauseOfActor l fault.Memory contents g actor r = Unit {0}
+CauseOfActor l (fault.Read named) contents g actor r = (named ≡ actor) × IsSensorWith g actor (λ file bound. ReadFails [] file r)
+CauseOfActor l (fault.Sensor named f) contents g actor r = (named ≡ actor) × IsSensorWith g actor (λ file bound. IfSome (contents file) (λ bytes. rows_of bytes ≡ Err f))
+CauseOfActor l (fault.Late named row seen limit) contents g actor r =
+    (named ≡ actor) × (l ≡ late.Refused) × IsSensorWith g actor (λ file bound. (rows : List Row) × IfSome (contents file) (λ bytes. rows_of bytes ≡ Ok rows) × IsLateRow rows g.until bound row seen limit)

@@ -12,16 +12,17 @@ use Rattle.pt_sensors.specs.declared.recorded_fault.LateRows.{LateRows}
 use Rattle.pt_sensors.specs.declared.recorded_fault.LateRows.TheVariants as late
 use Rattle.pt_sensors.specs.declared.recorded_fault.RecordedFault.{RecordedFault}
 use Rattle.pt_sensors.specs.declared.recorded_fault.RecordedFault.TheVariants as fault
-use Rattle.pt_sensors.specs.Asked.{Contents, Reading, ReadFails, files_before}
+use Rattle.pt_sensors.specs.Asked.{ReadFails, files_before}
+use Rattle.pt_io.specs.Calls.{Contents, Reading}
 
 -- a sensor has the rows of its file, and other kinds have none
 abbrev pub RowsOfKind : Contents → Kind → List Row → Type 0
-RowsOfKind tells (Sensor file bound) rows = IfSome (tells file) (λ bytes. rows_of bytes ≡ Ok rows)
-RowsOfKind tells _ rows = rows ≡ []
+RowsOfKind contents (Sensor file bound) rows = IfSome (contents file) (λ bytes. rows_of bytes ≡ Ok rows)
+RowsOfKind contents _ rows = rows ≡ []
 
 -- each actor has its rows
 abbrev pub AreRows : Contents → Graph → (ℕ → List Row) → Type 0
-AreRows tells g rows = (a : ℕ) → RowsOfKind tells (kind_of g a) (rows a)
+AreRows contents g rows = (a : ℕ) → RowsOfKind contents (kind_of g a) (rows a)
 
 -- no row of a sensor up to the horizon is late
 abbrev pub InTime : ℕ → Kind → List Row → Type 0
@@ -39,19 +40,19 @@ AllPass l g rows = (a : ℕ) → RowsPass l g.until (kind_of g a) (rows a)
 
 -- each of the first n actors has rows that pass
 abbrev pub HaveRows : LateRows → Contents → Graph → ℕ → Type 0
-HaveRows l tells g n = (a : ℕ) → a < n → (rows : List Row) × RowsOfKind tells (kind_of g a) rows × RowsPass l g.until (kind_of g a) rows
+HaveRows l contents g n = (a : ℕ) → a < n → (rows : List Row) × RowsOfKind contents (kind_of g a) rows × RowsPass l g.until (kind_of g a) rows
 
 -- the actor is the first that gives no rows: a sensor whose file has this fault
-pub record SensorFails (l : LateRows) (tells : Contents) (g : Graph) (actor : ℕ) (f : RowFault) : Type 0 where
-  pub earlier : HaveRows l tells g actor
+pub record SensorFails (l : LateRows) (contents : Contents) (g : Graph) (actor : ℕ) (f : RowFault) : Type 0 where
+  pub earlier : HaveRows l contents g actor
   pub file : List ℕ
   pub bound : ℕ
   pub sensor : kind_of g actor ≡ Sensor file bound
-  pub fails : IfSome (tells file) (λ bytes. rows_of bytes ≡ Err f)
+  pub fails : IfSome (contents file) (λ bytes. rows_of bytes ≡ Err f)
 
 -- the actor is the first that gives no rows: a sensor whose file could not be read
-pub record SensorUnread (l : LateRows) (tells : Contents) (g : Graph) (actor : ℕ) (others : List (List ℕ)) (r : Reading) : Type 0 where
-  pub earlier : HaveRows l tells g actor
+pub record SensorUnread (l : LateRows) (contents : Contents) (g : Graph) (actor : ℕ) (others : List (List ℕ)) (r : Reading) : Type 0 where
+  pub earlier : HaveRows l contents g actor
   pub file : List ℕ
   pub bound : ℕ
   pub sensor : kind_of g actor ≡ Sensor file bound
@@ -67,18 +68,18 @@ pub record IsLateRow (rows : List Row) (until bound row seen limit : ℕ) : Type
   pub past : limit < seen
 
 -- the actor is the first that gives no rows: a sensor with a late row
-pub record SensorLate (tells : Contents) (g : Graph) (actor row seen limit : ℕ) : Type 0 where
-  pub earlier : HaveRows late.Refused tells g actor
+pub record SensorLate (contents : Contents) (g : Graph) (actor row seen limit : ℕ) : Type 0 where
+  pub earlier : HaveRows late.Refused contents g actor
   pub file : List ℕ
   pub bound : ℕ
   pub sensor : kind_of g actor ≡ Sensor file bound
   pub rows : List Row
-  pub read : IfSome (tells file) (λ bytes. rows_of bytes ≡ Ok rows)
+  pub read : IfSome (contents file) (λ bytes. rows_of bytes ≡ Ok rows)
   pub is_late : IsLateRow rows g.until bound row seen limit
 
 -- why the sensors of a graph gave no rows; the names in `others` were asked for before their files
 abbrev pub CauseOfRows : LateRows → RecordedFault → Contents → Graph → List (List ℕ) → Reading → Type 0
-CauseOfRows l fault.Memory tells g others r = Unit {0}
-CauseOfRows l (fault.Read actor) tells g others r = SensorUnread l tells g actor others r
-CauseOfRows l (fault.Sensor actor f) tells g others r = SensorFails l tells g actor f
-CauseOfRows l (fault.Late actor row seen limit) tells g others r = (l ≡ late.Refused) × SensorLate tells g actor row seen limit
+CauseOfRows l fault.Memory contents g others r = Unit {0}
+CauseOfRows l (fault.Read actor) contents g others r = SensorUnread l contents g actor others r
+CauseOfRows l (fault.Sensor actor f) contents g others r = SensorFails l contents g actor f
+CauseOfRows l (fault.Late actor row seen limit) contents g others r = (l ≡ late.Refused) × SensorLate contents g actor row seen limit

@@ -1,6 +1,7 @@
 //! The rows of one sensor's file, and whether one of them is late.
 
 ghost use Rattle.std.specs.Prelude.{◌≡◌, ◌<◌, ◌≤◌, ◌+◌, [], ◌∷◌, Ok, None, IfOk, IfErr, IfNone, IfSome, OnOk, length};
+ghost use Rattle.pt_io.specs.Calls.{reading};
 ghost use Rattle.pt_sensors.specs.Late.{late_row};
 ghost use Rattle.pt_sensors.specs.Order.{RowsAreInOrder};
 ghost use Rattle.pt_sensors.specs.RowsOf.{rows_of};
@@ -10,9 +11,9 @@ ghost use Rattle.pt_sensors.specs.Files.{CauseOfFile, IsLateFault};
 
 use crate::late::first_late;
 use crate::recorded_fault::{LateRows, RecordedFault, fault_of_rows};
-use crate::{MOST_BYTES, read_rows};
+use crate::{MOST_SENSOR_BYTES, read_rows};
 use pt_io::{FetchFault, Source};
-use pt_tags::List;
+use pt_tags::{List, Time};
 use pt_types::Row;
 use std::alloc::Global;
 
@@ -23,16 +24,16 @@ pub fn rows_of_file<S: Source>(
     actor: u32,
     name: &str,
 ) -> Result<List<Row>, RecordedFault>
-    ensures rows { IfOk result (λ rows. IfSome (S.tells source.old name.now) (λ bytes. rows_of bytes ≡ Ok rows)) }
+    ensures rows { IfOk result (λ rows. IfSome (S.contents source.old name.now) (λ bytes. rows_of bytes ≡ Ok rows)) }
     ensures order { IfOk result RowsAreInOrder }
-    ensures fault { IfErr result (λ f. CauseOfFile actor f (S.tells source.old) name.now
-        (record { asked_before = S.asked source.old; asked_now = S.asked source.new; before = S.faults source.old; now = S.faults source.new })) }
-    ensures keeps { S.tells source.new ≡ S.tells source.old }
+    ensures fault { IfErr result (λ f. CauseOfFile actor f (S.contents source.old) name.now
+        (reading S.Source source.old source.new)) }
+    ensures keeps { S.contents source.new ≡ S.contents source.old }
     ensures grows { S.faults source.old ≤ S.faults source.new }
     ensures asks { IfOk result (λ rows. Asks (S.asked source.old) (S.asked source.new) (name.now ∷ [])) }
     ensures asks_by { IfErr result (λ f. AsksBy f (S.asked source.old) (S.asked source.new) (name.now ∷ [])) }
 {
-    let bytes = match source.fetch(alloc, name, MOST_BYTES) {
+    let bytes = match source.fetch(alloc, name, MOST_SENSOR_BYTES) {
         Ok(bytes) => bytes,
         Err(FetchFault::Failed) => return Err(RecordedFault::Read { sensor: actor }),
         Err(FetchFault::Memory) => return Err(RecordedFault::Memory),
@@ -44,7 +45,7 @@ pub fn rows_of_file<S: Source>(
 }
 
 /// The fault for the first late row: its time is at most `until`, and it is seen more than `bound` after its time.
-fn late_fault(actor: u32, rows: &[Row], bound: u64, until: u64) -> Option<RecordedFault>
+fn late_fault(actor: u32, rows: &[Row], bound: u64, until: Time) -> Option<RecordedFault>
     requires { length rows.now ≤ 100000 }
     ensures none { IfNone result (late_row bound until rows.now ≡ None) }
     ensures some { IfSome result (λ f. IsLateFault f actor rows.now bound until) }
@@ -73,7 +74,7 @@ pub fn judged(
     actor: u32,
     rows: &[Row],
     bound: u64,
-    until: u64,
+    until: Time,
 ) -> Result<(), RecordedFault>
     requires { length rows.now ≤ 100000 }
     ensures passes { OnOk result (late ≡ Refused → late_row bound until rows.now ≡ None) }

@@ -19,10 +19,11 @@ mod recorded_rows;
 mod sensor_rows;
 
 pub use fault::RowFault;
+pub use late::first_late;
 pub use lines::{fault_line, late_line};
 pub use numbers::limited;
 pub use pt_types::Row;
-pub use reader::{MOST_BYTES, advance, cells, read_rows, reader_of};
+pub use reader::{MOST_SENSOR_BYTES, advance, cells, read_rows, reader_of};
 pub use recorded_fault::{LateRows, RecordedFault};
 pub use recorded_rows::recorded;
 pub use sensor_rows::SensorRows;

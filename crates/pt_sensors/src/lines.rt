@@ -4,6 +4,7 @@ ghost use Rattle.std.specs.Prelude.{◌≡◌, ◌++◌, string_bytes, OnOk};
 ghost use Rattle.pt_sensors.specs.Lines.{sensor_fault_line, row_fault_text, late_line};
 
 use crate::fault::RowFault;
+use pt_tags::Reading;
 use std::alloc::AllocError;
 use std::error::Error;
 use std::fmt;
@@ -31,19 +32,19 @@ impl fmt::Display for RowFault {
 
 impl Error for RowFault {}
 
-/// Appends the line for a fault of a sensor's file.
+/// Appends the line for a fault of a sensor's file, as `sensor s: time order at row 2`.
 pub fn fault_line(text: &mut String, name: &str, fault: &RowFault) -> Result<(), AllocError>
     ensures { OnOk result (string_bytes text.new ≡ string_bytes text.old ++ sensor_fault_line name.now fault.now) }
 {
     write!(text, "sensor {name}: {fault}\n")
 }
 
-/// Appends the line for a late row. Times are in microseconds.
+/// Appends the line for a late row, as `late s row 1, seen 61 past 60`. Times are in microseconds.
 pub fn late_line(
     text: &mut String,
     name: &str,
     row: u32,
-    seen: u64,
+    seen: Reading,
     limit: u64,
 ) -> Result<(), AllocError>
     ensures { OnOk result (string_bytes text.new ≡ string_bytes text.old ++ late_line name.now row seen limit) }

@@ -12,17 +12,14 @@ use crate::fault::RowFault;
 use crate::numbers::{limited, signed};
 use csv::{ByteRecord, Reader, ReaderBuilder};
 use pt_tags::{List, Memory};
-use pt_types::Row;
+use pt_types::{MOST_TIME, Row};
 use std::alloc::Global;
 
 /// The most bytes of a sensor file.
-pub const MOST_BYTES: usize = 8_388_608;
+pub const MOST_SENSOR_BYTES: usize = 8_388_608;
 
 /// The most rows of a sensor file.
 pub const MOST_ROWS: u32 = 100_000;
-
-/// The greatest time of a row, in microseconds.
-const MOST_TIME: u64 = 1_000_000_000_000_000;
 
 /// The latest reading at which a row may be seen, in microseconds.
 const MOST_SEEN: u64 = 10_000_000_000_000_000;
@@ -37,6 +34,9 @@ const LINE_BYTES: usize = 128;
 ///
 /// Faults are looked for in the order in which `RowFault` lists them: first those of the file and its header,
 /// then row by row. Times are whole microseconds. (The format is this project's own choice.)
+///
+/// The lines `time,seen,value`, `50,55,7` and `60,60,8` give two rows: 7 at time 50, seen at reading 55, and 8 at time 60, seen
+/// at reading 60. If the second is `60,59,8` the fault is `SeenEarly(2)`: no row is seen before its time.
 pub fn read_rows(alloc: Global, bytes: &[u8]) -> Result<List<Row>, RowFault>
     ensures rows { GivesRows (rows_of bytes.now) result }
     ensures order { IfOk result RowsAreInOrder }
@@ -49,7 +49,7 @@ pub fn read_rows(alloc: Global, bytes: &[u8]) -> Result<List<Row>, RowFault>
 fn read(alloc: Global, bytes: &[u8]) -> Result<List<Row>, RowFault>
     ensures { GivesRows (rows_of bytes.now) result }
 {
-    if bytes.len() > MOST_BYTES {
+    if bytes.len() > MOST_SENSOR_BYTES {
         return Err(RowFault::TooLong);
     }
     let mut reader = reader_of(alloc, bytes);

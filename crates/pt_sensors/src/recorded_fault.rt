@@ -4,6 +4,7 @@ ghost use Rattle.std.specs.Prelude.{◌≡◌};
 ghost use Rattle.pt_sensors.specs.Faults.{fault_of_sensor};
 
 use crate::RowFault;
+use pt_tags::Reading;
 use thiserror::Error;
 
 /// Whether late rows are faults.
@@ -38,7 +39,7 @@ pub enum RecordedFault {
     Late {
         actor: u32,
         row: u32,
-        seen: u64,
+        seen: Reading,
         limit: u64,
     },
 }

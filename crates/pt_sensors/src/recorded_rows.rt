@@ -1,6 +1,7 @@
 //! The rows of all sensors of a graph.
 
 ghost use Rattle.std.specs.Prelude.{◌≡◌, ◌<◌, ◌≤◌, ◌^◌, [], IfOk, IfErr, length};
+ghost use Rattle.pt_io.specs.Calls.{reading};
 ghost use Rattle.pt_semantics.specs.Lists.{Each};
 ghost use Rattle.pt_types.specs.Lookups.{kind_of};
 ghost use Rattle.pt_semantics.specs.Rows.{FitRows};
@@ -29,12 +30,12 @@ fn rows_of_actor<S: Source>(
     late: LateRows,
 ) -> Result<List<Row>, RecordedFault>
     requires { actor < length graph.now.actors }
-    ensures rows { IfOk result (λ rows. RowsOfKind (S.tells source.old) (kind_of graph.now actor) rows) }
+    ensures rows { IfOk result (λ rows. RowsOfKind (S.contents source.old) (kind_of graph.now actor) rows) }
     ensures passes { IfOk result (λ rows. RowsPass late graph.now.until (kind_of graph.now actor) rows) }
     ensures order { IfOk result RowsAreInOrder }
-    ensures fault { IfErr result (λ f. CauseOfActor late f (S.tells source.old) graph.now actor
-        (record { asked_before = S.asked source.old; asked_now = S.asked source.new; before = S.faults source.old; now = S.faults source.new })) }
-    ensures keeps { S.tells source.new ≡ S.tells source.old }
+    ensures fault { IfErr result (λ f. CauseOfActor late f (S.contents source.old) graph.now actor
+        (reading S.Source source.old source.new)) }
+    ensures keeps { S.contents source.new ≡ S.contents source.old }
     ensures grows { S.faults source.old ≤ S.faults source.new }
     ensures asks { IfOk result (λ rows. Asks (S.asked source.old) (S.asked source.new) (file_of (kind_of graph.now actor))) }
     ensures asks_by { IfErr result (λ f. AsksBy f (S.asked source.old) (S.asked source.new) (file_of (kind_of graph.now actor))) }
@@ -50,6 +51,10 @@ fn rows_of_actor<S: Source>(
 /// The rows of all sensors of a graph, read in graph order: one entry for each actor, empty if it is not a sensor.
 ///
 /// If late rows are refused, the rows of each sensor are checked before the next file is fetched.
+///
+/// If actors 0 and 2 of three are sensors with files `s.csv` and `u.csv`, `s.csv` is fetched first, and entry 1 has no rows. If
+/// its first row is 7 at time 50, seen at reading 61, and its bound is 10, the fault is `Late` with actor 0, row 1, seen 61
+/// and limit 60, and `u.csv` is not fetched.
 pub fn recorded<S: Source>(
     alloc: Global,
     source: &mut S,
@@ -57,17 +62,17 @@ pub fn recorded<S: Source>(
     late: LateRows,
 ) -> Result<Vec<SensorRows>, RecordedFault>
     requires { length graph.now.actors < 2 ^ 32 }
-    ensures rows { IfOk result (λ all. AreRows (S.tells source.old) graph.now (rows_for all.items)) }
+    ensures rows { IfOk result (λ all. AreRows (S.contents source.old) graph.now (rows_for all.items)) }
     ensures passes { IfOk result (λ all. AllPass late graph.now (rows_for all.items)) }
     ensures actors { IfOk result (λ all. Each (IsOfActors (length graph.now.actors)) all.items) }
     ensures places { IfOk result (λ all. StandInPlace graph.now all.items) }
     ensures fit { IfOk result (λ all. late ≡ Refused → FitRows graph.now (of_run graph.now (rows_for all.items))) }
-    ensures fault { IfErr result (λ f. CauseOfRows late f (S.tells source.old) graph.now []
-        (record { asked_before = S.asked source.old; asked_now = S.asked source.new; before = S.faults source.old; now = S.faults source.new })) }
+    ensures fault { IfErr result (λ f. CauseOfRows late f (S.contents source.old) graph.now []
+        (reading S.Source source.old source.new)) }
     ensures asks { AsksFiles graph.now (S.asked source.old) (S.asked source.new) }
     ensures asks_up_to { IfErr result (λ f. AsksUpTo f graph.now (S.asked source.old) (S.asked source.new)) }
     ensures asks_all { IfOk result (λ all. Asks (S.asked source.old) (S.asked source.new) (sensor_files graph.now.actors)) }
-    ensures keeps { S.tells source.new ≡ S.tells source.old }
+    ensures keeps { S.contents source.new ≡ S.contents source.old }
     ensures grows { S.faults source.old ≤ S.faults source.new }
 {
     let count = graph.actors.as_slice().len();

@@ -5,7 +5,7 @@ use Rattle.std.proofs.lemmas.Option.{slice_get-get_or, slice_get_within}
 use Rattle.pt_tags.specs.declared.tag.Delay.{Delay}
 use Rattle.pt_types.specs.declared.graph.Graph.{Graph}
 use Rattle.pt_types.specs.declared.graph.Link.{Link}
-use Rattle.pt_types.specs.declared.graph.Unit.{Unit as Part}
+use Rattle.pt_types.specs.declared.graph.Unit.{Unit}
 use Rattle.pt_types.specs.declared.kind.Kind.{Kind}
 use Rattle.pt_types.specs.declared.kind.Kind.TheVariants.{Actuator, Receive, Send, Sensor}
 use Rattle.pt_types.specs.Lawful.{IsLawful}
@@ -37,12 +37,12 @@ pub not_sensor : (file : List ℕ) (bound : ℕ) → Receive ≡ Sensor file bou
 not_sensor file bound e = cc
 
 -- along any path a source needs no more than by the least delay
-needed_path : (g : Graph) (late : ℕ) (x u : Part) (path : List Edge) (found : Option Delay) → HasLeast g x u found → Goes g x path u → late ≤ needed_by late found + (sum_along path).time
+needed_path : (g : Graph) (late : ℕ) (x u : Unit) (path : List Edge) (found : Option Delay) → HasLeast g x u found → Goes g x path u → late ≤ needed_by late found + (sum_along path).time
 needed_path g late x u path None has goes = absurd (has path goes)
 needed_path g late x u path (Some d) has goes = let le : d.time ≤ (sum_along path).time = (has.least path goes).0 in omega (arith, le)
 
 -- what is needed is needed along a path
-needed_some : (g : Graph) (late : ℕ) (x u : Part) (found : Option Delay) → HasLeast g x u found → 0 < needed_by late found → (path : List Edge) × Goes g x path u × (needed_by late found + (sum_along path).time ≡ late)
+needed_some : (g : Graph) (late : ℕ) (x u : Unit) (found : Option Delay) → HasLeast g x u found → 0 < needed_by late found → (path : List Edge) × Goes g x path u × (needed_by late found + (sum_along path).time ≡ late)
 needed_some g late x u None has more = absurd (omega (arith, more))
 needed_some g late x u (Some d) has more =
     let same : (sum_along has.along.0).time ≡ d.time = ap (λ (e : Delay). e.time) has.along.2 in
@@ -70,7 +70,7 @@ below_of g a k is other =
     (λ (past : length g.actors ≤ a). absurd (other (sym (past_kind g a past) ∙ is)))
     (cases_lt a (length g.actors))
 
-module _ (g : Graph) (least : Part → Part → Option Delay) (hops : List Hop) (lawful : IsLawful g) (are : hops ≡ map (hop_of g) g.links) (all : AreLeast g least) where
+module _ (g : Graph) (least : Unit → Unit → Option Delay) (hops : List Hop) (lawful : IsLawful g) (are : hops ≡ map (hop_of g) g.links) (all : AreLeast g least) where
   unit_of_actor : (a : ℕ) → a < length g.actors → IsUnit g (unit_at a 0)
   unit_of_actor a less = (less, some_group (kind_of g a) (any_kind g a lawful))
 
@@ -112,12 +112,12 @@ module _ (g : Graph) (least : Part → Part → Option Delay) (hops : List Hop) 
       (omega (arith, below, len), hop_is g hops w are below ∙ ap (hop_of g) same)
 
   pub path_in : (s : ℕ → ℕ) (r a : ℕ) (path : List Edge) → Goes (with_slacks g s) (at_output (with_slacks g s) r 0) path (unit_at a 0) → Goes g (unit_at r 0) path (unit_at a 0)
-  path_in s r a path goes = subst (λ (x : Part). Goes g x path (unit_at a 0)) (output_with g s r 0 ∙ sym (first_unit g r)) (goes_from g s (at_output (with_slacks g s) r 0) path (unit_at a 0) goes)
+  path_in s r a path goes = subst (λ (x : Unit). Goes g x path (unit_at a 0)) (output_with g s r 0 ∙ sym (first_unit g r)) (goes_from g s (at_output (with_slacks g s) r 0) path (unit_at a 0) goes)
 
   pub feeds_by : (s : ℕ → ℕ) (r b a : ℕ) (path : List Edge) → bound_of (with_slacks g s) r ≡ Some b → Goes g (unit_at r 0) path (unit_at a 0) → Feeds (with_slacks g s) r b path (unit_at a 0)
   feeds_by s r b a path bound goes = record {
     bound = bound;
-    goes = subst (λ (x : Part). Goes (with_slacks g s) x path (unit_at a 0)) (first_unit g r ∙ sym (output_with g s r 0)) (goes_to g s (unit_at r 0) path (unit_at a 0) goes);
+    goes = subst (λ (x : Unit). Goes (with_slacks g s) x path (unit_at a 0)) (first_unit g r ∙ sym (output_with g s r 0)) (goes_to g s (unit_at r 0) path (unit_at a 0) goes);
   }
 
   -- with slacks that admit the graph, a sender has what each source asks for along each path

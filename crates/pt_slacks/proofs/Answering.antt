@@ -3,7 +3,7 @@ use Rattle.std.proofs.Common.{◌≡◌, ℕ, ℤ, pos, negsuc, ◌+◌, ◌<◌
 use Rattle.std.proofs.lemmas.Int.{ints}
 use Rattle.pt_tags.specs.declared.tag.Delay.{Delay}
 use Rattle.pt_types.specs.declared.graph.Graph.{Graph}
-use Rattle.pt_types.specs.declared.graph.Unit.{Unit as Part}
+use Rattle.pt_types.specs.declared.graph.Unit.{Unit}
 use Rattle.pt_types.specs.declared.kind.Kind.TheVariants.{Send, Sensor}
 use Rattle.pt_types.specs.Lawful.{IsLawful}
 use Rattle.pt_types.specs.Lookups.{kind_of}
@@ -40,7 +40,7 @@ offset_asks x o b t is le some =
     ap at_least_zero exact)
     some
 
-module _ (g : Graph) (least : Part → Part → Option Delay) (hops : List Hop) (lawful : IsLawful g) (are : hops ≡ map (hop_of g) g.links) (all : AreLeast g least) (slack row : ℕ → ℕ) (same : (w : ℕ) → w < length hops → row w ≡ slack (hop_at hops w).from) where
+module _ (g : Graph) (least : Unit → Unit → Option Delay) (hops : List Hop) (lawful : IsLawful g) (are : hops ≡ map (hop_of g) g.links) (all : AreLeast g least) (slack row : ℕ → ℕ) (same : (w : ℕ) → w < length hops → row w ≡ slack (hop_at hops w).from) where
   -- what is needed is enough for each source along each path
   pub feeds_need : (a x : ℕ) → a < length g.actors → IsNeed g hops least row a x → (r b : ℕ) (path : List Edge) → Feeds (with_slacks g slack) r b path (unit_at a 0) → b + 1 ≤ x + (sum_along path).time
   feeds_need a x here need r b path feeds =

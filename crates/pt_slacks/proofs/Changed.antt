@@ -6,7 +6,7 @@ use Rattle.pt_types.specs.declared.graph.Graph.{Graph}
 use Rattle.pt_types.specs.declared.graph.Actor.{Actor}
 use Rattle.pt_types.specs.declared.graph.Link.{Link}
 use Rattle.pt_types.specs.declared.graph.Wire.{Wire}
-use Rattle.pt_types.specs.declared.graph.Unit.{Unit as Part}
+use Rattle.pt_types.specs.declared.graph.Unit.{Unit}
 use Rattle.pt_types.specs.declared.kind.Kind.{Kind}
 use Rattle.pt_types.specs.declared.kind.Kind.TheVariants.{Actuator, Receive, Send, Sensor}
 use Rattle.pt_types.specs.Groups.{input_group, no_actor, output_group}
@@ -79,7 +79,7 @@ module _ (g : Graph) (s : ℕ → ℕ) where
   wires_with : wires (with_slacks g s) ≡ wires g
   wires_with = wires_in g.wires
 
-  pub goes_from : (x : Part) (path : List Edge) (a : Part) → Goes (with_slacks g s) x path a → Goes g x path a
+  pub goes_from : (x : Unit) (path : List Edge) (a : Unit) → Goes (with_slacks g s) x path a → Goes g x path a
   goes_from x [] a h = h
   goes_from x (e ∷ es) a h = (
     subst (IsIn e) wires_with h.0,
@@ -87,7 +87,7 @@ module _ (g : Graph) (s : ℕ → ℕ) where
     goes_from (target g e) es a (subst (λ t. Goes (with_slacks g s) t es a) (input_with e.to e.input) h.2),
   )
 
-  pub goes_to : (x : Part) (path : List Edge) (a : Part) → Goes g x path a → Goes (with_slacks g s) x path a
+  pub goes_to : (x : Unit) (path : List Edge) (a : Unit) → Goes g x path a → Goes (with_slacks g s) x path a
   goes_to x [] a h = h
   goes_to x (e ∷ es) a h = (
     subst (IsIn e) (sym wires_with) h.0,

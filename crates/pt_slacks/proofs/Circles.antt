@@ -7,7 +7,7 @@ use Rattle.std.proofs.lemmas.List.{append-nil}
 use Rattle.std.proofs.lemmas.List.Sums.{take_while-cons}
 use Rattle.pt_tags.specs.declared.tag.Delay.{Delay}
 use Rattle.pt_types.specs.declared.graph.Graph.{Graph}
-use Rattle.pt_types.specs.declared.graph.Unit.{Unit as Part}
+use Rattle.pt_types.specs.declared.graph.Unit.{Unit}
 use Rattle.pt_types.specs.Lawful.{IsLawful}
 use Rattle.pt_types.specs.Lookups.{kind_of}
 use Rattle.pt_semantics.specs.Lists.{IsIn}
@@ -50,7 +50,7 @@ rotate g (x ∷ xs) (y ∷ ys) n h =
     let parts = gains_split g x xs y ys x n h in
     subst (λ z. GainsAlong g y (ys ++ x ∷ xs) y z) (swapped n parts.0 parts.1 parts.4) (gains_join g y ys x xs y parts.1 parts.0 parts.3 parts.2)
 
-gain_by : (g : Graph) (a b : Part) (x y cost : ℕ) (found : Option Delay) → HasLeast g a b found → y ≡ needed_by (x + cost) found → 0 < y → (d : Delay) × IsLeast g a b d × (pos y -ℤ pos x ≡ pos cost -ℤ pos d.time)
+gain_by : (g : Graph) (a b : Unit) (x y cost : ℕ) (found : Option Delay) → HasLeast g a b found → y ≡ needed_by (x + cost) found → 0 < y → (d : Delay) × IsLeast g a b d × (pos y -ℤ pos x ≡ pos cost -ℤ pos d.time)
 gain_by g a b x y cost None has is more = absurd (omega (arith, is, more))
 gain_by g a b x y cost (Some d) has is more = (d, has, exact x y cost d.time is more)
   where
@@ -60,7 +60,7 @@ gain_by g a b x y cost (Some d) has is more = (d, has, exact x y cost d.time is 
 same_sum : (a b c : ℕ) → pos c -ℤ pos a ≡ (pos b -ℤ pos a) +ℤ (pos c -ℤ pos b)
 same_sum a b c = omega (arith, ints)
 
-module _ (g : Graph) (least : Part → Part → Option Delay) (hops : List Hop) (lawful : IsLawful g) (are : hops ≡ map (hop_of g) g.links) (all : AreLeast g least) (rows : List (List ℕ)) where
+module _ (g : Graph) (least : Unit → Unit → Option Delay) (hops : List Hop) (lawful : IsLawful g) (are : hops ≡ map (hop_of g) g.links) (all : AreLeast g least) (rows : List (List ℕ)) where
   gain_step : (k v u : ℕ) → v < length hops → HasRisen (length hops) (slack_row_at rows (k + 1)) (slack_row_at rows ((k + 1) + 1)) u → slice_index (slack_row_at rows ((k + 1) + 1)) u ≡ by_hop hops least (slice_index (slack_row_at rows (k + 1))) (hop_at hops u).from v →
       Gains g (hop_at hops v).from (hop_at hops u).from (pos (slice_index (slack_row_at rows ((k + 1) + 1)) u) -ℤ pos (slice_index (slack_row_at rows (k + 1)) v))
   gain_step k v u below rose is =

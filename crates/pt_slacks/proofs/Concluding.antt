@@ -2,7 +2,7 @@
 use Rattle.std.proofs.Common.{◌≡◌, ℕ, ◌<◌, ◌≤◌, List, Option, length, map, slice_index, sym, ap, subst, ◌∙◌, arith, ⊎_elim}
 use Rattle.pt_tags.specs.declared.tag.Delay.{Delay}
 use Rattle.pt_types.specs.declared.graph.Graph.{Graph}
-use Rattle.pt_types.specs.declared.graph.Unit.{Unit as Part}
+use Rattle.pt_types.specs.declared.graph.Unit.{Unit}
 use Rattle.pt_types.specs.declared.kind.Kind.TheVariants.{Actuator, Receive, Send}
 use Rattle.pt_types.specs.Groups.{input_group}
 use Rattle.pt_types.specs.Lawful.{IsLawful}
@@ -23,7 +23,7 @@ use Rattle.pt_slacks.proofs.Rounds.{hop_more}
 not_actuator : (own : ℕ) → Receive ≡ Actuator own → ⊥
 not_actuator own e = cc
 
-module _ (g : Graph) (least : Part → Part → Option Delay) (hops : List Hop) (lawful : IsLawful g) (are : hops ≡ map (hop_of g) g.links) (all : AreLeast g least) (row needs : List ℕ) (best : IsLeastRow g least hops row) (have : AreNeeds g hops least (slice_index row) needs) where
+module _ (g : Graph) (least : Unit → Unit → Option Delay) (hops : List Hop) (lawful : IsLawful g) (are : hops ≡ map (hop_of g) g.links) (all : AreLeast g least) (row needs : List ℕ) (best : IsLeastRow g least hops row) (have : AreNeeds g hops least (slice_index row) needs) where
   sender_need : (a own : ℕ) → kind_of g a ≡ Send own → IsNeed g hops least (slice_index row) a (slice_index needs a)
   sender_need a own sends = have.each a (subst HasSlack (sym sends) tt) (below_of g a (Send own) sends (not_send own))
 

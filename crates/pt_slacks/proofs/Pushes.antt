@@ -3,7 +3,7 @@ use Rattle.std.proofs.Common.{◌≡◌, ℕ, ◌+◌, ◌<◌, List, [], ◌∷
 use Rattle.std.proofs.lemmas.List.{get_or_append_left, get_or_push, length_push}
 use Rattle.pt_tags.specs.declared.tag.Delay.{Delay}
 use Rattle.pt_types.specs.declared.graph.Graph.{Graph}
-use Rattle.pt_types.specs.declared.graph.Unit.{Unit as Part}
+use Rattle.pt_types.specs.declared.graph.Unit.{Unit}
 use Rattle.pt_offsets.proofs.Maxima.{last_or_before}
 use Rattle.pt_slacks.specs.declared.hop.Hop.{Hop}
 use Rattle.pt_slacks.specs.Rows.{AreBases, AreSlackRows, HasRisen, IsNextRow, slack_row_at}
@@ -22,7 +22,7 @@ row_before rows next k less = get_or_append_left rows (next ∷ []) [] k less
 row_last : (rows : List (List ℕ)) (next : List ℕ) (k : ℕ) → length rows ≡ k → slack_row_at (rows ++ next ∷ []) k ≡ next
 row_last rows next k len = get_or_push rows next [] k len
 
-module _ (g : Graph) (least : Part → Part → Option Delay) (hops : List Hop) where
+module _ (g : Graph) (least : Unit → Unit → Option Delay) (hops : List Hop) where
   next_more : (rows : List (List ℕ)) (next : List ℕ) (m : ℕ) → AreSlackRows g least hops rows m → IsNextRow hops least (slack_row_at rows m) next → (k : ℕ) → k < m + 1 → IsNextRow hops least (slack_row_at (rows ++ next ∷ []) k) (slack_row_at (rows ++ next ∷ []) (k + 1))
   next_more rows next m are is k h =
       let len : length rows ≡ m + 1 = are.len in

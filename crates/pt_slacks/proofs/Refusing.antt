@@ -3,7 +3,7 @@ use Rattle.std.proofs.Common.{◌≡◌, ℕ, ℤ, pos, ◌+◌, ◌<◌, ◌≤
 use Rattle.std.proofs.lemmas.Int.{ints}
 use Rattle.pt_tags.specs.declared.tag.Delay.{Delay}
 use Rattle.pt_types.specs.declared.graph.Graph.{Graph}
-use Rattle.pt_types.specs.declared.graph.Unit.{Unit as Part}
+use Rattle.pt_types.specs.declared.graph.Unit.{Unit}
 use Rattle.pt_types.specs.Lawful.{IsLawful}
 use Rattle.pt_semantics.specs.Bounds.{Feeds}
 use Rattle.pt_semantics.specs.Paths.{Goes}
@@ -26,7 +26,7 @@ gain_le g slack w v n lawful admits one =
     let goes : Goes (with_slacks g slack) (unit_at one.link.to 0) path (unit_at v 0) = goes_to g slack (unit_at one.link.to 0) path (unit_at v 0) one.least.along.1 in
     let feeds : Feeds (with_slacks g slack) one.link.to bound.0 path (unit_at v 0) = record {
       bound = bound.1;
-      goes = subst (λ (x : Part). Goes (with_slacks g slack) x path (unit_at v 0)) (first_unit g one.link.to ∙ sym (output_with g slack one.link.to 0)) goes;
+      goes = subst (λ (x : Unit). Goes (with_slacks g slack) x path (unit_at v 0)) (first_unit g one.link.to ∙ sym (output_with g slack one.link.to 0)) goes;
     } in
     let le = admits v (slack v) one.link.to bound.0 path (kind_with g slack v ∙ ap (with_slack (slack v)) one.sends) (subst (Feeds (with_slacks g slack) one.link.to bound.0 path) (first_unit g v ∙ sym (output_with g slack v 0)) feeds) in
     gained (slack w) (slack v) bound.0 (cost_of g one.link) (sum_along path).time one.delay.time n (bound.2 ∙ ap (λ a. slack a + cost_of g one.link) one.from) le (ap (λ (d : Delay). d.time) one.least.along.2) one.is

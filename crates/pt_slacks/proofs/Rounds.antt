@@ -3,7 +3,7 @@ use Rattle.std.proofs.Common.{◌≡◌, ℕ, zero, suc, ◌+◌, ◌*◌, ◌<�
 use Rattle.std.proofs.lemmas.Bool.{and_parts}
 use Rattle.pt_tags.specs.declared.tag.Delay.{Delay}
 use Rattle.pt_types.specs.declared.graph.Graph.{Graph}
-use Rattle.pt_types.specs.declared.graph.Unit.{Unit as Part}
+use Rattle.pt_types.specs.declared.graph.Unit.{Unit}
 use Rattle.pt_types.specs.declared.kind.Kind.{Kind}
 use Rattle.pt_types.specs.declared.kind.Kind.TheVariants.{Sensor}
 use Rattle.pt_types.specs.Kinds.{is_time, kind_is_lawful}
@@ -37,7 +37,7 @@ kind_small (Sensor file bound) d h =
     omega (arith, le, small)
 kind_small _ d h = omega arith
 
-module _ (g : Graph) (least : Part → Part → Option Delay) (hops : List Hop) where
+module _ (g : Graph) (least : Unit → Unit → Option Delay) (hops : List Hop) where
   -- a greater slack at a hop's sender needs no less elsewhere
   pub hop_more : (s t : ℕ → ℕ) (v w : ℕ) → s w ≤ t w → by_hop hops least s v w ≤ by_hop hops least t v w
   hop_more s t v w h = needed_more (s w) (t w) (hop_at hops w).cost (least (unit_at (hop_at hops w).to 0) (unit_at v 0)) h

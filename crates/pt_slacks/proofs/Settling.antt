@@ -3,7 +3,7 @@ use Rattle.std.proofs.Common.{◌≡◌, ℕ, ◌+◌, ◌<◌, ◌≤◌, ◌^�
 use Rattle.std.proofs.lemmas.List.{get_or_read}
 use Rattle.pt_tags.specs.declared.tag.Delay.{Delay}
 use Rattle.pt_types.specs.declared.graph.Graph.{Graph}
-use Rattle.pt_types.specs.declared.graph.Unit.{Unit as Part}
+use Rattle.pt_types.specs.declared.graph.Unit.{Unit}
 use Rattle.pt_types.specs.Lawful.{IsLawful}
 use Rattle.pt_slacks.specs.declared.hop.Hop.{Hop}
 use Rattle.pt_slacks.specs.Hops.{hop_at}
@@ -17,7 +17,7 @@ read_row rows m item row len same read = same ∙ get_or_read rows m item (omega
 below_both : (x y : ℕ) → x ≤ y → y < 2 ^ 62 → x < 2 ^ 62
 below_both x y h k = omega arith
 
-module _ (g : Graph) (least : Part → Part → Option Delay) (hops : List Hop) (rows : List (List ℕ)) (m : ℕ) (row : List ℕ) (is : row ≡ slack_row_at rows m) (are : AreSlackRows g least hops rows m) where
+module _ (g : Graph) (least : Unit → Unit → Option Delay) (hops : List Hop) (rows : List (List ℕ)) (m : ℕ) (row : List ℕ) (is : row ≡ slack_row_at rows m) (are : AreSlackRows g least hops rows m) where
   pub begun_len : length row ≡ length hops
   begun_len = ap length is ∙ row_len g least hops rows m m are (omega arith)
 

@@ -7,7 +7,7 @@ use Rattle.std.proofs.lemmas.List.{map-append, reverse-append, length-append, le
 use Rattle.std.proofs.lemmas.Map.Steps.{length-le_from_distinct_below}
 use Rattle.pt_tags.specs.declared.tag.Delay.{Delay}
 use Rattle.pt_types.specs.declared.graph.Graph.{Graph}
-use Rattle.pt_types.specs.declared.graph.Unit.{Unit as Part}
+use Rattle.pt_types.specs.declared.graph.Unit.{Unit}
 use Rattle.pt_types.specs.Lawful.{IsLawful}
 use Rattle.pt_types.proofs.LawfulLinks.{links_once_out}
 use Rattle.pt_semantics.specs.Lists.{Each, IsIn}
@@ -77,11 +77,11 @@ each_left : (P : ℕ → Type 0) (xs ys : List ℕ) → Each P (xs ++ ys) → Ea
 each_left P [] ys h = tt
 each_left P (x ∷ xs) ys h = (h.0, each_left P xs ys h.1)
 
-trails_below : (hops : List Hop) (least : Part → Part → Option Delay) (rows : List (List ℕ)) (k : ℕ) (xs : List ℕ) → Trails hops least rows k xs → Each (λ x. x < length hops) xs
+trails_below : (hops : List Hop) (least : Unit → Unit → Option Delay) (rows : List (List ℕ)) (k : ℕ) (xs : List ℕ) → Trails hops least rows k xs → Each (λ x. x < length hops) xs
 trails_below hops least rows k [] h = tt
 trails_below hops least rows k (x ∷ xs) h = (h.0.below, trails_below hops least rows (k + 1) xs h.2)
 
-module _ (g : Graph) (least : Part → Part → Option Delay) (hops : List Hop) (rows : List (List ℕ)) (are_rows : AreSlackRows g least hops rows (length hops + 1)) where
+module _ (g : Graph) (least : Unit → Unit → Option Delay) (hops : List Hop) (rows : List (List ℕ)) (are_rows : AreSlackRows g least hops rows (length hops + 1)) where
   -- what raised a sender has risen in the round before
   pub riser : (k at w : ℕ) → k + 1 ≤ length hops → HasRisen (length hops) (slack_row_at rows (k + 1)) (slack_row_at rows ((k + 1) + 1)) at → w < length hops →
       slice_index (slack_row_at rows ((k + 1) + 1)) at ≡ by_hop hops least (slice_index (slack_row_at rows (k + 1))) (hop_at hops at).from w → HasRisen (length hops) (slack_row_at rows k) (slack_row_at rows (k + 1)) w
@@ -180,7 +180,7 @@ module _ (g : Graph) (least : Part → Part → Option Delay) (hops : List Hop) 
       let most : length (at ∷ walk.others) ≤ length hops = few (length hops) (at ∷ walk.others) walk.is_trail.apart (trails_below hops least rows walk.risen (at ∷ walk.others) walk.is_trail.on) in
       omega (arith, whole, place, most, past)
 
-module _ (g : Graph) (least : Part → Part → Option Delay) (hops : List Hop) (lawful : IsLawful g) (are : hops ≡ map (hop_of g) g.links) (all : AreLeast g least) (rows : List (List ℕ)) (are_rows : AreSlackRows g least hops rows (length hops + 1)) where
+module _ (g : Graph) (least : Unit → Unit → Option Delay) (hops : List Hop) (lawful : IsLawful g) (are : hops ≡ map (hop_of g) g.links) (all : AreLeast g least) (rows : List (List ℕ)) (are_rows : AreSlackRows g least hops rows (length hops + 1)) where
   once : (a b : ℕ) → a < length hops → b < length hops → (hop_at hops a).from ≡ (hop_at hops b).from → a ≡ b
   once a b here there same =
       let one = hop_of_link g least hops lawful are all a here in

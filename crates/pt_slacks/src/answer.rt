@@ -4,17 +4,16 @@ ghost use Rattle.std.specs.Prelude.{◌≡◌, ◌<◌, ◌^◌, ◌++◌, [], �
 ghost use Rattle.pt_types.specs.Lawful.{IsLawful};
 ghost use Rattle.pt_causality.specs.Delays.{AreLeast, least_of};
 ghost use Rattle.pt_slacks.specs.Hops.{hop_at, hop_of};
-ghost use Rattle.pt_slacks.specs.Listed.{listed, with_entry};
+ghost use Rattle.pt_slacks.specs.Listed.{AreListed, listed, with_entry};
 ghost use Rattle.pt_slacks.specs.Needs.{AreNeeds, HasSlack, IsNeed};
 ghost use Rattle.pt_slacks.specs.Rings.{CauseOfSlacks};
 ghost use Rattle.pt_slacks.specs.Rows.{IsLeastRow, SettlesAs};
-ghost use Rattle.pt_slacks.specs.Slacks.{AreLeastSlacks};
 
 use crate::hop::{Hop, hops_of};
 use crate::needs::{base, raised};
 use crate::ring::ring_of;
 use crate::rows::settle;
-use crate::settled::Settled;
+use crate::settled::RoundsOutcome;
 use crate::slack::{Slack, SlackFault};
 use pt_causality::Least;
 use pt_types::{Graph, Kind};
@@ -24,10 +23,13 @@ use std::alloc::{AllocError, Global};
 /// the graph; or a ring of senders for which no slacks are enough.
 ///
 /// The slacks in the graph are not used. A slack can be above 10^15 microseconds; then no file can state it.
+///
+/// A sender that a sensor of bound 10 us feeds needs slack 11 us: its events are safe from 11 us past their tags on. If a delay of
+/// 5 us is between them, 6 us are enough.
 pub fn slacks(alloc: Global, graph: &Graph, least: &Least) -> Result<Vec<Slack>, SlackFault>
     requires lawful { IsLawful graph.now }
     requires least { AreLeast graph.now (least_of least.now) }
-    ensures slacks { IfOk result (λ v. (slack : ℕ → ℕ) × AreLeastSlacks graph.now slack × (v.items ≡ listed graph.now slack)) }
+    ensures slacks { IfOk result (λ v. AreListed graph.now v.items) }
     ensures ring { IfErr result (λ f. CauseOfSlacks f graph.now) }
 {
     let hops = hops_of(alloc, graph)?;
@@ -41,21 +43,21 @@ fn slacks_or_ring(
     graph: &Graph,
     least: &Least,
     hops: &[Hop],
-    settled: Settled,
+    settled: RoundsOutcome,
 ) -> Result<Vec<Slack>, SlackFault>
     requires lawful { IsLawful graph.now }
     requires least { AreLeast graph.now (least_of least.now) }
     requires hops { hops.now ≡ map (hop_of graph.now) graph.now.links }
     requires settled { SettlesAs graph.now (least_of least.now) hops.now settled }
-    ensures slacks { IfOk result (λ v. (slack : ℕ → ℕ) × AreLeastSlacks graph.now slack × (v.items ≡ listed graph.now slack)) }
+    ensures slacks { IfOk result (λ v. AreListed graph.now v.items) }
     ensures ring { IfErr result (λ f. CauseOfSlacks f graph.now) }
 {
     match settled {
-        Settled::Row(row) => {
+        RoundsOutcome::Row(row) => {
             let slacks = least_slacks(alloc, graph, least, hops, row.as_slice())?;
             Ok(slacks)
         }
-        Settled::Rising { rows, link } => {
+        RoundsOutcome::Rising { rows, link } => {
             let ring = ring_of(alloc, graph, least, hops, rows.as_slice(), link)?;
             Err(ring)
         }
@@ -74,7 +76,7 @@ fn least_slacks(
     requires least { AreLeast graph.now (least_of least.now) }
     requires hops { hops.now ≡ map (hop_of graph.now) graph.now.links }
     requires row { IsLeastRow graph.now (least_of least.now) hops.now row.now }
-    ensures { IfOk result (λ v. (slack : ℕ → ℕ) × AreLeastSlacks graph.now slack × (v.items ≡ listed graph.now slack)) }
+    ensures { IfOk result (λ v. AreListed graph.now v.items) }
 {
     let needs = all_needs(alloc, graph, least, hops, row)?;
     let slacks = list(alloc, graph, needs.as_slice())?;

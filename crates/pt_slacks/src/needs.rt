@@ -9,7 +9,7 @@ ghost use Rattle.pt_slacks.specs.Needs.{IsBase, IsRaised, by_kind, needed_by};
 
 use crate::hop::Hop;
 use pt_causality::Least;
-use pt_tags::Delay;
+use pt_tags::{Delay, Time};
 use pt_types::{Graph, Kind, Unit};
 
 /// The slack that an actor needs by the sensors alone, in microseconds.
@@ -27,7 +27,7 @@ pub fn base(graph: &Graph, least: &Least, actor: u32) -> u64
 /// The greater of `start` and the slack that an actor needs by the links, in microseconds.
 ///
 /// `row` has the slack of each link's sender.
-pub fn raised(hops: &[Hop], least: &Least, row: &[u64], start: u64, actor: u32) -> u64
+pub fn raised(hops: &[Hop], least: &Least, row: &[u64], start: Time, actor: u32) -> u64
     requires len { length row.now ≡ length hops.now }
     requires row { (w : ℕ) → w < length hops.now → slice_index row.now w < 2 ^ 62 }
     requires cost { (w : ℕ) → w < length hops.now → (hop_at hops.now w).cost < 2 ^ 52 }

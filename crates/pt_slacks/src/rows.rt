@@ -8,7 +8,7 @@ ghost use Rattle.pt_slacks.specs.Rows.{AreBases, HasRisen, IsNextRow, SettlesAs}
 
 use crate::hop::Hop;
 use crate::needs::{base, raised};
-use crate::settled::Settled;
+use crate::settled::RoundsOutcome;
 use pt_causality::Least;
 use pt_tags::List;
 use pt_types::Graph;
@@ -20,7 +20,7 @@ pub fn settle(
     graph: &Graph,
     least: &Least,
     hops: &[Hop],
-) -> Result<Settled, AllocError>
+) -> Result<RoundsOutcome, AllocError>
     requires lawful { IsLawful graph.now }
     requires hops { hops.now ≡ map (hop_of graph.now) graph.now.links }
     ensures { IfOk result (SettlesAs graph.now (least_of least.now) hops.now) }
@@ -32,12 +32,12 @@ pub fn settle(
         let row = rows[round].as_slice();
         let next = next_row(alloc, hops, least, row)?;
         let Some(risen) = first_risen(row, next.as_slice()) else {
-            return Ok(Settled::Row(next));
+            return Ok(RoundsOutcome::Row(next));
         };
         link = risen;
         rows.push(next)?;
     }
-    Ok(Settled::Rising { rows, link })
+    Ok(RoundsOutcome::Rising { rows, link })
 }
 
 /// For each link, the slack that its sender needs by the sensors alone.

@@ -8,7 +8,7 @@ use pt_types::Graph;
 use std::alloc::{AllocError, Global};
 
 /// Slacks as text: the header line `actor,slack`, then a line for each, with the name of its actor and the slack in
-/// microseconds.
+/// microseconds, as `w,11`.
 pub fn slacks_text(alloc: Global, graph: &Graph, slacks: &[Slack]) -> Result<String, AllocError>
     ensures { IfOk result (λ text. string_bytes text ≡ slacks_text graph.now slacks.now) }
 {

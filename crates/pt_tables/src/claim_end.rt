@@ -3,7 +3,7 @@
 ghost use Rattle.std.specs.Prelude.{◌≡◌, ◌≤◌, length};
 ghost use Rattle.pt_tables.specs.Log.{claim_end};
 
-use crate::line::Line;
+use crate::line::LineBuffer;
 use pt_tags::Tag;
 use std::marker::Model;
 
@@ -12,7 +12,7 @@ use std::marker::Model;
 #[derive(Drop)]
 pub(crate) struct ClaimEnd {
     tag: Tag,
-    line: Line,
+    line: LineBuffer,
 }
 
 impl Model for ClaimEnd {
@@ -31,7 +31,7 @@ impl ClaimEnd {
     /// The end for tag 0.0.
     pub(crate) fn new() -> ClaimEnd {
         let tag = Tag { time: 0, step: 0 };
-        let mut line = Line::empty();
+        let mut line = LineBuffer::empty();
         write_claim_end(&mut line, tag);
         ClaimEnd { tag, line }
     }
@@ -49,7 +49,7 @@ impl ClaimEnd {
 
     /// The end, as a line.
     #[inline(always)]
-    pub(crate) fn line(&self) -> &Line
+    pub(crate) fn line(&self) -> &LineBuffer
         ensures line { result.now ≡ claim_end self.now }
         ensures length { length result.now ≤ 43 }
     {
@@ -59,7 +59,7 @@ impl ClaimEnd {
 
 /// Writes the end for a tag.
 #[inline(always)]
-fn write_claim_end(line: &mut Line, tag: Tag)
+fn write_claim_end(line: &mut LineBuffer, tag: Tag)
     ensures line { line.new ≡ claim_end tag }
     ensures length { length line.new ≤ 43 }
 {

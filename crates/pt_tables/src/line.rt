@@ -16,13 +16,13 @@ const SHORT: usize = 64;
 /// A line, the end of one, or some lines. It is written from its last byte to its first, as the digits of a number are, and
 /// appended to a text as one piece: that is faster than one piece for each field. Contracts see its bytes.
 #[derive(Drop)]
-pub(crate) struct Line {
+pub(crate) struct LineBuffer {
     bytes: [u8; ROOM],
     /// Where the line begins. It ends where `bytes` end.
     start: usize,
 }
 
-impl Model for Line {
+impl Model for LineBuffer {
     ghost use Rattle.std.specs.Prelude.{◌≤◌, List, ℕ, drop};
     ghost use Rattle.std.specs.Str.{IsUtf8};
 
@@ -33,13 +33,13 @@ impl Model for Line {
     ghost invariant = { λ l. (l.start ≤ 128) × IsUtf8 (drop l.start l.bytes) };
 }
 
-impl Line {
+impl LineBuffer {
     /// No bytes.
     #[inline(always)]
-    pub(crate) fn empty() -> Line
+    pub(crate) fn empty() -> LineBuffer
         ensures { result ≡ [] }
     {
-        Line {
+        LineBuffer {
             bytes: [0; ROOM],
             start: ROOM,
         }
@@ -47,10 +47,10 @@ impl Line {
 
     /// The end of a line.
     #[inline(always)]
-    pub(crate) fn new() -> Line
+    pub(crate) fn new() -> LineBuffer
         ensures { result ≡ 10 ∷ [] }
     {
-        let mut line = Line::empty();
+        let mut line = LineBuffer::empty();
         line.put(b'\n');
         line
     }
@@ -74,7 +74,7 @@ impl Line {
 
     /// Becomes a copy of a short line.
     #[inline(always)]
-    pub(crate) fn copy_short(&mut self, short: &Line)
+    pub(crate) fn copy_short(&mut self, short: &LineBuffer)
         requires { length short.now ≤ 64 }
         ensures { self.new ≡ short.now }
     {
@@ -155,7 +155,7 @@ impl Line {
 
     /// Puts a line before this one.
     #[inline(always)]
-    pub(crate) fn put_line(&mut self, line: &Line)
+    pub(crate) fn put_line(&mut self, line: &LineBuffer)
         requires { length line.now + length self.old ≤ 128 }
         ensures { self.new ≡ line.now ++ self.old }
     {
@@ -171,7 +171,7 @@ impl Line {
     /// Puts a short line before this one. The line's bytes are copied with the unused ones before them, which are overwritten
     /// later: a copy whose size is known takes few instructions.
     #[inline(always)]
-    pub(crate) fn put_short(&mut self, short: &Line)
+    pub(crate) fn put_short(&mut self, short: &LineBuffer)
         requires short { length short.now ≤ 64 }
         requires room { length self.old ≤ 64 }
         ensures { self.new ≡ short.now ++ self.old }
@@ -212,7 +212,7 @@ impl Line {
 
     /// Appends a line and then this one, or these, to a page with room for both: as one piece, if they fit into one.
     #[inline(always)]
-    pub(crate) fn append_after_line(&mut self, page: &mut Vec<u8>, line: &Line)
+    pub(crate) fn append_after_line(&mut self, page: &mut Vec<u8>, line: &LineBuffer)
         requires { vec_len page.old + 256 ≤ vec_capacity page.old }
         ensures lines { page.new.items ≡ (page.old.items ++ line.now) ++ self.old }
         ensures capacity { vec_capacity page.old ≤ vec_capacity page.new }
@@ -228,7 +228,7 @@ impl Line {
 
 /// Appends two lines to a page. Not inlined, since most are appended as one piece.
 #[inline(never)]
-fn append_both(page: &mut Vec<u8>, first: &Line, second: &Line)
+fn append_both(page: &mut Vec<u8>, first: &LineBuffer, second: &LineBuffer)
     requires { vec_len page.old + 256 ≤ vec_capacity page.old }
     ensures lines { page.new.items ≡ (page.old.items ++ first.now) ++ second.now }
     ensures capacity { vec_capacity page.old ≤ vec_capacity page.new }

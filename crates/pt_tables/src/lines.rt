@@ -1,4 +1,4 @@
-//! Single lines of the log. The names in them are short, so that each has room in a `Line`.
+//! Single lines of the log. The names in them are short, so that each has room in a `LineBuffer`.
 
 ghost use Rattle.std.specs.Prelude.{◌≡◌, ◌+◌, ◌≤◌, ◌++◌, ◌∷◌, [], OnOk, codes, length, string_bytes};
 ghost use Rattle.std.specs.Fmt.{decimal, signed_decimal};
@@ -8,7 +8,7 @@ ghost use Rattle.pt_history.specs.Tasks.{mark_of};
 ghost use Rattle.pt_tables.specs.Names.{HasShortNames};
 ghost use Rattle.pt_tables.specs.Log.{claim_line, message_line, post_line, row_line, sent_line, take_line, turn_line};
 
-use crate::line::Line;
+use crate::line::LineBuffer;
 use crate::names::{receiver_name, sender_name};
 use crate::pen::Pen;
 use pt_history::Mark;
@@ -16,7 +16,7 @@ use pt_tags::{Message, Tag};
 use pt_types::{Graph, OnLink, Row, RowAt};
 use std::alloc::AllocError;
 
-/// Appends the line of a turn, or of a run of quiet turns: `turn,PLATFORM,FIRST,LAST,COUNT`.
+/// Appends the line of a turn, or of a run of quiet turns: `turn,PLATFORM,FIRST,LAST,COUNT`, as `turn,p,55,61,2`.
 pub fn push_turn_line(
     text: &mut String,
     platform: &str,
@@ -27,7 +27,7 @@ pub fn push_turn_line(
     requires { length platform.now ≤ 32 }
     ensures { OnOk result (string_bytes text.new ≡ string_bytes text.old ++ turn_line platform.now first last count) }
 {
-    let mut line = Line::new();
+    let mut line = LineBuffer::new();
     line.field(count);
     line.field(last);
     line.field(first);
@@ -37,7 +37,7 @@ pub fn push_turn_line(
 
 /// Writes the line of the posted result of a task, which is given without its inputs: `post,NUMBER`.
 #[inline(always)]
-pub(crate) fn write_post(line: &mut Line, task: Mark)
+pub(crate) fn write_post(line: &mut LineBuffer, task: Mark)
     ensures { (done : Done) → mark_of done.task ≡ task → line.new ≡ post_line done }
 {
     line.clear();
@@ -46,7 +46,7 @@ pub(crate) fn write_post(line: &mut Line, task: Mark)
 
 /// Puts the line of the posted result of task `number` before a line.
 #[inline(always)]
-pub(crate) fn put_post(line: &mut Line, number: u64)
+pub(crate) fn put_post(line: &mut LineBuffer, number: u64)
     requires { length line.old + 26 ≤ 128 }
     ensures { line.new ≡ codes "post," ++ decimal number ++ 10 ∷ line.old }
 {
@@ -57,7 +57,7 @@ pub(crate) fn put_post(line: &mut Line, number: u64)
 
 /// Writes the line of a row that entered: `row,SENSOR,TIME,SEEN,VALUE`.
 #[inline(always)]
-pub(crate) fn write_row(line: &mut Line, graph: &Graph, at: &RowAt)
+pub(crate) fn write_row(line: &mut LineBuffer, graph: &Graph, at: &RowAt)
     requires { HasShortNames graph.now }
     ensures { line.new ≡ row_line graph.now at.now }
 {
@@ -71,7 +71,7 @@ pub(crate) fn write_row(line: &mut Line, graph: &Graph, at: &RowAt)
 }
 
 /// Writes the line of a message taken: `take,RECEIVER,TIME,STEP,VALUE` or `take,RECEIVER,end`.
-pub(crate) fn write_taken(line: &mut Line, graph: &Graph, taken: &OnLink)
+pub(crate) fn write_taken(line: &mut LineBuffer, graph: &Graph, taken: &OnLink)
     requires { HasShortNames graph.now }
     ensures { line.new ≡ take_line graph.now taken.now }
 {
@@ -100,7 +100,7 @@ pub(crate) fn write_claim(pen: &mut Pen, graph: &Graph, claim: Mark)
 }
 
 /// Writes the line of a message sent: `sent,SENDER,TIME,STEP,VALUE` or `sent,SENDER,end`.
-pub(crate) fn write_sent(line: &mut Line, graph: &Graph, sent: &OnLink)
+pub(crate) fn write_sent(line: &mut LineBuffer, graph: &Graph, sent: &OnLink)
     requires { HasShortNames graph.now }
     ensures { line.new ≡ sent_line graph.now sent.now }
 {
@@ -109,7 +109,7 @@ pub(crate) fn write_sent(line: &mut Line, graph: &Graph, sent: &OnLink)
 
 /// Writes the line of a message at one end of a link.
 #[inline(always)]
-fn write_message(line: &mut Line, word: &str, name: &str, message: Message)
+fn write_message(line: &mut LineBuffer, word: &str, name: &str, message: Message)
     requires { length word.now + length name.now ≤ 62 }
     ensures { line.new ≡ message_line word.now name.now message }
 {
@@ -121,7 +121,7 @@ fn write_message(line: &mut Line, word: &str, name: &str, message: Message)
 
 /// Writes the line of an event at one end of a link.
 #[inline(always)]
-fn write_event(line: &mut Line, word: &str, name: &str, tag: Tag, value: i64)
+fn write_event(line: &mut LineBuffer, word: &str, name: &str, tag: Tag, value: i64)
     requires { length word.now + length name.now ≤ 62 }
     ensures { line.new ≡ message_line word.now name.now (Message.Event tag value) }
 {
@@ -133,7 +133,7 @@ fn write_event(line: &mut Line, word: &str, name: &str, tag: Tag, value: i64)
 }
 
 /// Writes the line of the end of a link, at one end of it.
-fn write_last(line: &mut Line, word: &str, name: &str)
+fn write_last(line: &mut LineBuffer, word: &str, name: &str)
     requires { length word.now + length name.now ≤ 62 }
     ensures { line.new ≡ message_line word.now name.now Message.End }
 {

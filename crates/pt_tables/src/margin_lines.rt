@@ -10,7 +10,8 @@ use std::alloc::{AllocError, Global};
 
 /// The offsets and margins of a graph's actors as text, in graph order and in microseconds.
 ///
-/// The header line is `actor,offset,margin`; each actor has one line, with `-` for an absent number.
+/// The header line is `actor,offset,margin`; each actor has one line, with `-` for an absent number, as `s,10,-` for a sensor and
+/// `out,-90,89` for an actuator.
 pub fn margins(alloc: Global, graph: &Graph, offsets: &Offsets) -> Result<String, AllocError>
     requires { length graph.now.actors < 2 ^ 32 }
     ensures { IfOk result (λ text. string_bytes text ≡ margins_text graph.now (actor_offset_of offsets.now) (margin_in offsets.now)) }

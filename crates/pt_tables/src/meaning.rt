@@ -1,19 +1,20 @@
 //! The tables of a meaning, filled as its firings happen.
 
-ghost use Rattle.std.specs.Prelude.{◌≡◌, ◌++◌, ◌∷◌, [], List, IfOk, IsErrOf, OnOk, length, string_bytes};
+ghost use Rattle.std.specs.Prelude.{◌≡◌, IfOk, IsErrOf, length, string_bytes};
 ghost use Rattle.pt_types.specs.declared.firing.ActorFiring.{ActorFiring};
 ghost use Rattle.pt_types.specs.Lawful.{IsLawful};
 ghost use Rattle.pt_semantics.specs.Lists.{Each};
-ghost use Rattle.pt_semantics.specs.Meaning.{IsLonger, rows_until};
+ghost use Rattle.pt_semantics.specs.Meaning.{IsLonger};
 ghost use Rattle.pt_semantics.specs.Tables.{tables_text};
-ghost use Rattle.pt_sensors.specs.Listed.{rows_for, IsOfActors};
+ghost use Rattle.pt_sensors.specs.Listed.{IsOfActors};
+ghost use Rattle.pt_meaning.specs.Opening.{rows_of_run};
 ghost use Rattle.pt_meaning.specs.Waiting.{rank_in};
 ghost use Rattle.pt_meaning.specs.Running.{Handed};
 ghost use Rattle.pt_tables.specs.Gathered.{texts_from};
 
 use crate::actor_tables::ActorTables;
 use crate::text::input_value;
-use pt_meaning::{MeaningFault, Receiver, fire_all};
+use pt_meaning::{MeaningFault, Receiver, reference};
 use pt_sensors::SensorRows;
 use pt_tags::Memory;
 use pt_types::{Actor, ActorFiring, Graph};
@@ -38,7 +39,7 @@ impl<'a> Receiver for Filling<'a> {
 }
 
 /// The tables of a graph's actuators as text, in graph order, from the firings that are the meaning of the graph with these
-/// rows. No list of the firings is made.
+/// rows. No list of the firings is made. The text is as that of `tables`.
 ///
 /// `ranks` has the rank of each actor of the graph. Rows past the horizon are left out. Fails with `Long` if there are more
 /// than `most` firings.
@@ -51,13 +52,13 @@ pub fn tables_of_meaning(
 ) -> Result<String, MeaningFault>
     requires lawful { IsLawful graph.now }
     requires sensors { Each (IsOfActors (length graph.now.actors)) sensors.now }
-    ensures text { IfOk result (λ text. Handed graph.now (rank_in ranks.now) (λ a. rows_until graph.now.until (rows_for sensors.now a)) most (λ xs. string_bytes text ≡ tables_text graph.now xs)) }
-    ensures long { IsErrOf result MeaningFault.Long → IsLonger graph.now (rank_in ranks.now) (λ a. rows_until graph.now.until (rows_for sensors.now a)) most }
+    ensures text { IfOk result (λ text. Handed graph.now (rank_in ranks.now) (rows_of_run graph.now sensors.now) most (λ xs. string_bytes text ≡ tables_text graph.now xs)) }
+    ensures long { IsErrOf result MeaningFault.Long → IsLonger graph.now (rank_in ranks.now) (rows_of_run graph.now sensors.now) most }
 {
     let actors = graph.actors.as_slice();
     let tables = ActorTables::new(alloc, actors)?;
     let mut filling = Filling { actors, tables };
-    fire_all(alloc, graph, ranks, sensors, most, &mut filling)?;
+    reference(alloc, graph, ranks, sensors, most, &mut filling)?;
     let text = filling.tables.text(alloc)?;
     Ok(text)
 }

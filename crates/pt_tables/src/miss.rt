@@ -4,7 +4,7 @@ ghost use Rattle.std.specs.Prelude.{◌≡◌, ◌++◌, OnOk, flat_map, string_
 ghost use Rattle.pt_tables.specs.Misses.{miss_line, missed_part, reading_part};
 
 use pt_history::Miss;
-use pt_tags::Tag;
+use pt_tags::{Reading, Tag};
 use pt_types::Graph;
 use std::alloc::AllocError;
 
@@ -35,7 +35,7 @@ fn push_missed(text: &mut String, name: &str, tag: Tag) -> Result<(), AllocError
 }
 
 /// Appends the reading and the limit of a miss, and ends the line.
-fn push_reading(text: &mut String, reading: u64, limit: u64) -> Result<(), AllocError>
+fn push_reading(text: &mut String, reading: Reading, limit: u64) -> Result<(), AllocError>
     ensures { OnOk result (string_bytes text.new ≡ string_bytes text.old ++ reading_part reading limit) }
 {
     write!(text, ", reading {reading} past {limit}\n")

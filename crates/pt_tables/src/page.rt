@@ -4,7 +4,7 @@ ghost use Rattle.std.specs.Prelude.{◌≡◌, ◌+◌, ◌++◌, ◌≤◌, [],
 ghost use Rattle.pt_io.specs.Causes.{Appends, AppendsPart, Rose};
 ghost use Rattle.pt_tables.specs.Putting.{AreOut};
 
-use crate::line::Line;
+use crate::line::LineBuffer;
 use pt_io::{PutFault, Sink};
 
 /// The most bytes that the lines of a short turn have, and more than a line has.
@@ -61,7 +61,7 @@ pub(crate) fn make_room<K: Sink>(out: &mut K, page: &mut Vec<u8>) -> Result<(), 
 pub(crate) fn put_line<K: Sink>(
     out: &mut K,
     page: &mut Vec<u8>,
-    line: &Line,
+    line: &LineBuffer,
 ) -> Result<(), PutFault>
     requires { 256 ≤ vec_capacity page.old }
     ensures all { OnOk result (AreOut (K.written out.old) (K.written out.new) page.new.items (page.old.items ++ line.now)) }

@@ -6,7 +6,7 @@ ghost use Rattle.pt_history.specs.Turns.{claimed_in, posted_in};
 ghost use Rattle.pt_tables.specs.Names.{HasShortNames};
 ghost use Rattle.pt_tables.specs.Log.{claim_line, post_line};
 
-use crate::line::Line;
+use crate::line::LineBuffer;
 use crate::lines::{put_post, write_claim};
 use crate::pen::Pen;
 use pt_history::History;
@@ -41,7 +41,13 @@ pub(crate) fn write_claims(
 /// Puts the lines of the results from `from` up to, not including, `end`, of those of all recorded turns, before other lines:
 /// the ones that a turn posted, which are at most one.
 #[inline(always)]
-pub(crate) fn put_posts(line: &mut Line, history: &History, turn: usize, from: usize, end: usize)
+pub(crate) fn put_posts(
+    line: &mut LineBuffer,
+    history: &History,
+    turn: usize,
+    from: usize,
+    end: usize,
+)
     requires turn { turn < length history.now.turns }
     requires from { from ≡ length (flat_map (λ turn. turn.posted) (take turn history.now.turns)) }
     requires end { end ≡ length (flat_map (λ turn. turn.posted) (take (turn + 1) history.now.turns)) }

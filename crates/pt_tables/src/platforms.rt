@@ -25,7 +25,8 @@ pub fn platforms_hold(platforms: &[Platform])
 }
 
 /// Puts the log of some platforms: the first line `log`, and then the lines of all turns of each platform, with the graph of
-/// its plan and its own number. It takes no memory.
+/// its plan and its own number. It takes no memory. A turn of platform p at reading 61 that claims task 0 of sensor s at tag 50.0
+/// has the lines `turn,p,61,61,1` and `claim,0,s,50,0`.
 pub fn put_log<K: Sink>(out: &mut K, page: LogPage, platforms: &[Platform]) -> Result<(), PutFault>
     ensures all { OnOk result (Appends (K.written out.old) (K.written out.new) (log_head ++ flat_map platform_lines platforms.now)) }
     ensures part { OnErr result (AppendsPart (K.written out.old) (K.written out.new) (log_head ++ flat_map platform_lines platforms.now)) }

@@ -1,14 +1,13 @@
 //! The lines of the turns of a platform, put by way of a page.
 
-ghost use Rattle.std.specs.Prelude.{◌≡◌, ◌+◌, ◌++◌, ◌<◌, ◌≤◌, OnErr, OnOk, Some, length, option_map, slice_get, vec_capacity};
+ghost use Rattle.std.specs.Prelude.{◌≡◌, ◌+◌, ◌++◌, ◌<◌, ◌≤◌, OnErr, OnOk, Some, length, slice_get, vec_capacity};
 ghost use Rattle.pt_io.specs.Causes.{AppendsPart, Rose};
-ghost use Rattle.pt_history.specs.Turns.{turn_head};
 ghost use Rattle.pt_semantics.specs.Turn.{Turn};
 ghost use Rattle.pt_tables.specs.Log.{history_lines, list_lines};
 ghost use Rattle.pt_tables.specs.Names.{HasShortNames};
 ghost use Rattle.pt_tables.specs.Putting.{AreOut};
 ghost use Rattle.pt_tables.specs.Reader.{HasComeTo};
-ghost use Rattle.pt_tables.specs.TurnLine.{IsKeptLine};
+ghost use Rattle.pt_tables.specs.TurnLine.{HasNumbersOf, IsKeptLine};
 ghost use Rattle.pt_tables.specs.TurnLists.{AreListsOf, all_lines, entry_lines, named_lines};
 ghost use Rattle.pt_tables.specs.Walk.{AreThrough, IsAtTurn};
 
@@ -88,7 +87,7 @@ fn put_lines<K: Sink>(
 ) -> Result<(), PutFault>
     requires number { number < length history.now.turns }
     requires line { IsKeptLine reader.old.line }
-    requires head { option_map turn_head (slice_get history.now.turns number) ≡ Some (record { first = reader.old.line.first; last = reader.old.line.last; count = reader.old.line.count }) }
+    requires head { HasNumbersOf history.now.turns number reader.old.line }
     requires walk { IsAtTurn history.now.turns number reader.old.walk }
     requires through { AreThrough history.now.turns number through }
     requires names { HasShortNames graph.now }
@@ -124,7 +123,7 @@ fn put_long<K: Sink>(
 ) -> Result<(), PutFault>
     requires number { number < length history.now.turns }
     requires line { IsKeptLine reader.old.line }
-    requires head { option_map turn_head (slice_get history.now.turns number) ≡ Some (record { first = reader.old.line.first; last = reader.old.line.last; count = reader.old.line.count }) }
+    requires head { HasNumbersOf history.now.turns number reader.old.line }
     requires walk { IsAtTurn history.now.turns number reader.old.walk }
     requires through { AreThrough history.now.turns number through }
     requires names { HasShortNames graph.now }

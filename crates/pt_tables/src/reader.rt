@@ -2,11 +2,10 @@
 
 ghost use Rattle.std.specs.Prelude.{◌≡◌, ◌+◌, ◌++◌, ◌<◌, ◌≤◌, Some, length, option_map, slice_get, vec_capacity, vec_len};
 ghost use Rattle.pt_semantics.specs.Turn.{Turn};
-ghost use Rattle.pt_history.specs.Turns.{turn_head};
 ghost use Rattle.pt_tables.specs.Names.{HasShortNames};
 ghost use Rattle.pt_tables.specs.Reader.{HasComeTo};
 ghost use Rattle.pt_tables.specs.Short.{IsShort};
-ghost use Rattle.pt_tables.specs.TurnLine.{IsKeptLine};
+ghost use Rattle.pt_tables.specs.TurnLine.{HasNumbersOf, IsKeptLine};
 ghost use Rattle.pt_tables.specs.TurnLists.{named_lines};
 ghost use Rattle.pt_tables.specs.Walk.{AreThrough, IsAtTurn};
 
@@ -47,7 +46,7 @@ impl<'a> Reader<'a> {
         requires at { HasComeTo history.now.turns number self.old }
         ensures platform { self.new.line.platform.now ≡ self.old.line.platform.now }
         ensures line { IsKeptLine self.new.line }
-        ensures head { option_map turn_head (slice_get history.now.turns number) ≡ Some (record { first = self.new.line.first; last = self.new.line.last; count = self.new.line.count }) }
+        ensures head { HasNumbersOf history.now.turns number self.new.line }
         ensures walk { self.new.walk ≡ self.old.walk }
     {
         let head = head_after(history, &self.walk.levels, self.line.last, number);
@@ -66,7 +65,7 @@ impl<'a> Reader<'a> {
     )
         requires number { number < length history.now.turns }
         requires line { IsKeptLine self.old.line }
-        requires head { option_map turn_head (slice_get history.now.turns number) ≡ Some (record { first = self.old.line.first; last = self.old.line.last; count = self.old.line.count }) }
+        requires head { HasNumbersOf history.now.turns number self.old.line }
         requires walk { IsAtTurn history.now.turns number self.old.walk }
         requires through { AreThrough history.now.turns number through }
         requires names { HasShortNames graph.now }

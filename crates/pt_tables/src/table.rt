@@ -3,7 +3,7 @@
 ghost use Rattle.std.specs.Prelude.{◌≡◌, ◌++◌, OnOk, []};
 ghost use Rattle.pt_semantics.specs.Tables.{line};
 
-use crate::line::Line;
+use crate::line::LineBuffer;
 use pt_tags::Tag;
 use std::alloc::{AllocError, Global};
 use std::marker::Model;
@@ -36,7 +36,7 @@ impl Table {
     pub(crate) fn push_line(&mut self, name: &str, tag: Tag, value: i64) -> Result<(), AllocError>
         ensures { OnOk result (self.new ≡ self.old ++ line name.now tag value) }
     {
-        let mut line = Line::new();
+        let mut line = LineBuffer::new();
         line.value(value);
         line.field(tag.step);
         line.field(tag.time);

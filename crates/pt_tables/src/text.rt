@@ -13,7 +13,7 @@ use std::alloc::{AllocError, Global};
 
 /// The tables of a graph's actuators as text, in graph order, from these firings in order.
 ///
-/// The header line is `actuator,time,step,value`; each firing of an actuator is one line.
+/// The header line is `actuator,time,step,value`; each firing of an actuator is one line, as `out,150,0,14`.
 pub fn tables(alloc: Global, graph: &Graph, firings: &Firings) -> Result<String, AllocError>
     ensures { IfOk result (λ text. string_bytes text ≡ tables_text graph.now firings.now) }
 {

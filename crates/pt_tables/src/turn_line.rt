@@ -4,7 +4,7 @@ ghost use Rattle.std.specs.Prelude.{◌≡◌, ◌+◌, ◌≤◌, ◌++◌, ◌
 ghost use Rattle.pt_tables.specs.Log.{turn_line};
 ghost use Rattle.pt_tables.specs.TurnLine.{HasHead, IsKeptLine};
 
-use crate::line::Line;
+use crate::line::LineBuffer;
 use pt_history::Head;
 
 /// The first line of some turn of a platform. Most turns have the same readings and count as the turn before, so that this
@@ -13,11 +13,11 @@ use pt_history::Head;
 pub(crate) struct TurnLine<'a> {
     pub platform: &'a str,
     /// What the lines of its turns begin with.
-    pub head: Line,
+    pub head: LineBuffer,
     pub first: u64,
     pub last: u64,
     pub count: u64,
-    pub line: Line,
+    pub line: LineBuffer,
 }
 
 impl<'a> TurnLine<'a> {
@@ -33,7 +33,7 @@ impl<'a> TurnLine<'a> {
             first: 0,
             last: 0,
             count: 0,
-            line: Line::empty(),
+            line: LineBuffer::empty(),
         };
         line.replace(0, 0, 0);
         line
@@ -73,7 +73,7 @@ impl<'a> TurnLine<'a> {
 
     /// Appends the line and the lines after it to a page with room for both: mostly as one piece.
     #[inline(always)]
-    pub(crate) fn append_before(&self, page: &mut Vec<u8>, after: &mut Line)
+    pub(crate) fn append_before(&self, page: &mut Vec<u8>, after: &mut LineBuffer)
         requires kept { IsKeptLine self.now }
         requires room { vec_len page.old + 256 ≤ vec_capacity page.old }
         ensures lines { page.new.items ≡ (page.old.items ++ turn_line self.now.platform.now self.now.first self.now.last self.now.count) ++ after.old }
@@ -84,11 +84,11 @@ impl<'a> TurnLine<'a> {
 }
 
 /// What the lines of the turns of a platform begin with: `turn,PLATFORM,`.
-fn head_of(platform: &str) -> Line
+fn head_of(platform: &str) -> LineBuffer
     requires { length platform.now ≤ 32 }
     ensures { result ≡ codes "turn," ++ platform.now ++ 44 ∷ [] }
 {
-    let mut head = Line::empty();
+    let mut head = LineBuffer::empty();
     head.put(b',');
     head.text(platform);
     head.text("turn,");
@@ -97,7 +97,7 @@ fn head_of(platform: &str) -> Line
 
 /// Writes the line of a turn, or of a run of quiet turns, where what it begins with is given.
 #[inline(always)]
-fn write_turn_line(line: &mut Line, head: &Line, first: u64, last: u64, count: u64)
+fn write_turn_line(line: &mut LineBuffer, head: &LineBuffer, first: u64, last: u64, count: u64)
     requires { length head.now ≤ 64 }
     ensures { (platform : List ℕ) → head.now ≡ codes "turn," ++ platform ++ 44 ∷ [] → line.new ≡ turn_line platform first last count }
 {

@@ -16,4 +16,4 @@ pub use list::List;
 pub use memory::Memory;
 pub use message::Message;
 pub use name::Name;
-pub use tag::{Delay, Tag};
+pub use tag::{Delay, Reading, Tag, Time, TrueTime};

@@ -3,14 +3,24 @@
 ghost use Rattle.std.specs.Prelude.{◌≡◌, ◌↔◌, IsTrue, IsSome, IfSome};
 ghost use Rattle.pt_tags.specs.Tags.{plus, then, tag_lt, Before, Fits, FitsDelay};
 
+/// A time of the model, in whole microseconds: when an event is meant to be (RTAS 2007).
+pub type Time = u64;
+
+/// What the clock of a platform shows, in whole microseconds.
+///
+/// It is compared with model times: that is how a platform decides what is safe to process.
+pub type Reading = u64;
+
+/// The time of a recorded network, in whole microseconds: the clock of a platform lags behind it.
+pub type TrueTime = u64;
+
 /// A tag: a place in model time, written `150.0`.
 ///
 /// The derived order is by time and then by step (RTAS 2007 orders
 /// events by timestamp; the step is this project's own choice).
 #[derive(Clone, Copy, Debug, PartialEq, Eq, PartialOrd, Ord)]
 pub struct Tag {
-    /// Microseconds of model time.
-    pub time: u64,
+    pub time: Time,
     /// The microstep at that time, from 0.
     pub step: u64,
 }
@@ -19,7 +29,7 @@ pub struct Tag {
 #[derive(Clone, Copy, Debug, PartialEq, Eq, PartialOrd, Ord)]
 pub struct Delay {
     /// Microseconds.
-    pub time: u64,
+    pub time: Time,
     /// Microsteps.
     pub step: u64,
 }

@@ -1,6 +1,6 @@
 //! Lines of words with the orders that they give, worked out by hand.
 
-use pt_words::order_of;
+use pt_words::order;
 use std::alloc::{AllocError, Global};
 use std::test::Fail;
 
@@ -162,11 +162,11 @@ fn words(alloc: Global, line: &str) -> Result<Vec<String>, AllocError> {
 fn each_line_gives_its_order(rt: HostRuntime) -> Result<(), Fail> {
     let alloc = rt.alloc();
     for case in CASES.split('\n') {
-        let (line, order) = case.split_once(" => ").ok_or("no arrow")?;
+        let (line, wanted) = case.split_once(" => ").ok_or("no arrow")?;
         let words = words(alloc, line)?;
-        let found = format!(in alloc; "{:?}", order_of(alloc, words.as_slice())?)?;
-        assert!(rt; found.as_str() == order, "{line}: {found}");
+        let found = format!(in alloc; "{:?}", order(alloc, words.as_slice())?)?;
+        assert!(rt; found.as_str() == wanted, "{line}: {found}");
     }
-    assert!(rt; order_of(alloc, &[])?.is_none());
+    assert!(rt; order(alloc, &[])?.is_none());
     Ok(())
 }

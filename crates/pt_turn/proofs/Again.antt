@@ -15,10 +15,10 @@ use Rattle.pt_semantics.specs.Safe.{NothingSafe}
 use Rattle.pt_semantics.specs.Turn.{IsLast, IsTurn, Turn}
 use Rattle.pt_causality.specs.Ranked.{level_of}
 use Rattle.pt_offsets.specs.Plans.{Parts}
-use Rattle.pt_state.specs.Sensors.{AreSensors}
+use Rattle.pt_turn.specs.Fields.Sensors.{AreSensors}
 use Rattle.pt_history.specs.declared.history.History.{History}
-use Rattle.pt_state.specs.declared.fields.Fields.{Fields}
-use Rattle.pt_state.specs.State.{left_in, rows_at_sensors, state_of, IsSound}
+use Rattle.pt_turn.specs.declared.state.fields.Fields.{Fields}
+use Rattle.pt_turn.specs.Fields.State.{left_in, rows_at_sensors, state_of, IsSound}
 use Rattle.pt_turn.specs.declared.claim_step.Ending.{Ending}
 use Rattle.pt_turn.specs.declared.claim_step.Ending.TheVariants.{Long as LongEnd}
 use Rattle.pt_turn.specs.declared.steps.Lists.{Lists}
@@ -33,7 +33,6 @@ use Rattle.pt_turn.specs.Turned.{FaultsIfLast, IsEnough, IsTurned, StaysThere, i
 use Rattle.pt_turn.proofs.Onward.{ends_as, late_as, ran_on}
 use Rattle.pt_turn.proofs.Readiness.{basis_of, both_rooms, still_runs}
 use Rattle.pt_turn.proofs.Turns.{messages_more}
-use Rattle.pt_types.specs.Limits.{most_claims}
 
 -- all that a turn over the parts gives
 pub record IsDone (p : Inside) (r most : ℕ) (dones : List Done) (messages : List OnLink) (new : Fields) (history : History) (lists : Lists) (fault : Option TurnFault) (handed now : List Task) : Type 0 where
@@ -42,7 +41,7 @@ pub record IsDone (p : Inside) (r most : ℕ) (dones : List Done) (messages : Li
   pub sensors : AreSensors (platform_graph p) new.sensors.items
   pub all_rows : (a : ℕ) → rows_at_sensors new.sensors.items a ≡ rows_at_sensors p.fields.sensors.items a
   pub reading : new.reading ≡ Some r
-  pub claims : new.claims ≤ most_claims
+  pub claims : new.claims ≤ (platform_graph p).claims
   pub empty : AreEmpty lists
   pub sent : length new.outbox.items ≤ history.room.sent
   pub fits : r < 2 ^ 64
@@ -50,7 +49,7 @@ pub record IsDone (p : Inside) (r most : ℕ) (dones : List Done) (messages : Li
 -- by the clauses of the call
 pub is_done : (p : Inside) (plan : Parts) (room : Room) (r most : ℕ) (dones : List Done) (messages : List OnLink) (new : Fields) (history : History) (lists : Lists) (fault : Option TurnFault) (handed now : List Task) → plan ≡ arc_value p.plan → IsRoomy p room → length dones ≤ room.done
     → IsRecordedTurn plan (record { level = level_of plan.ranks; platform = p.number; taken = messages_of p.history.turns }) r most dones messages p.fields new p.history.turns history.turns handed now fault
-    → IsSound plan.graph new → AreSensors plan.graph new.sensors.items → ((a : ℕ) → rows_at_sensors new.sensors.items a ≡ rows_at_sensors p.fields.sensors.items a) → new.reading ≡ Some r → new.claims ≤ most_claims → AreEmpty lists
+    → IsSound plan.graph new → AreSensors plan.graph new.sensors.items → ((a : ℕ) → rows_at_sensors new.sensors.items a ≡ rows_at_sensors p.fields.sensors.items a) → new.reading ≡ Some r → new.claims ≤ plan.graph.claims → AreEmpty lists
     → length new.outbox.items ≤ length p.fields.outbox.items + length dones * length plan.graph.links + length plan.graph.links → history.room.sent ≡ p.history.room.sent → r < 2 ^ 64 → IsDone p r most dones messages new history lists fault handed now
 is_done p plan room r most dones messages new history lists fault handed now same roomy few kept sound sensors all_rows reading claims empty outbox sent fits =
     let bound : length new.outbox.items ≤ length p.fields.outbox.items + length dones * length (platform_graph p).links + length (platform_graph p).links = subst (λ (z : Parts). length new.outbox.items ≤ length p.fields.outbox.items + length dones * length z.graph.links + length z.graph.links) same outbox in
@@ -61,7 +60,7 @@ is_done p plan room r most dones messages new history lists fault handed now sam
       sensors = subst (λ (z : Parts). AreSensors z.graph new.sensors.items) same sensors;
       all_rows = all_rows;
       reading = reading;
-      claims = claims;
+      claims = subst (λ (z : Parts). new.claims ≤ z.graph.claims) same claims;
       empty = empty;
       sent = omega (arith, bound, product, sent, roomy.sent);
       fits = fits;
@@ -70,7 +69,7 @@ is_done p plan room r most dones messages new history lists fault handed now sam
 -- the same where memory was reserved
 pub is_done_as : (p : Inside) (v : PlatformView) (plan : Parts) (reading r most : ℕ) (dones : List Done) (messages : List OnLink) (new : Fields) (history : History) (lists : Lists) (fault : Option TurnFault) (handed now : List Task) → view_of p ≡ v → IsPlatform p → MatchOption v.room ⊥ (IsEnough reading (length dones) (length messages) most) → plan ≡ arc_value p.plan
     → IsRecordedTurn plan (record { level = level_of plan.ranks; platform = p.number; taken = messages_of p.history.turns }) r most dones messages p.fields new p.history.turns history.turns handed now fault
-    → IsSound plan.graph new → AreSensors plan.graph new.sensors.items → ((a : ℕ) → rows_at_sensors new.sensors.items a ≡ rows_at_sensors p.fields.sensors.items a) → new.reading ≡ Some r → new.claims ≤ most_claims → AreEmpty lists
+    → IsSound plan.graph new → AreSensors plan.graph new.sensors.items → ((a : ℕ) → rows_at_sensors new.sensors.items a ≡ rows_at_sensors p.fields.sensors.items a) → new.reading ≡ Some r → new.claims ≤ plan.graph.claims → AreEmpty lists
     → length new.outbox.items ≤ length p.fields.outbox.items + length dones * length plan.graph.links + length plan.graph.links → history.room.sent ≡ p.history.room.sent → r < 2 ^ 64 → IsDone p r most dones messages new history lists fault handed now
 is_done_as p v plan reading r most dones messages new history lists fault handed now view is room same kept sound sensors all_rows read claims empty outbox sent fits =
     let both : (room : Room) × IsRoomy p room × IsEnough reading (length dones) (length messages) most room = both_rooms p p.room (IsEnough reading (length dones) (length messages) most) is.room (subst (λ (w : PlatformView). MatchOption w.room ⊥ (IsEnough reading (length dones) (length messages) most)) (sym view) room) in
@@ -115,7 +114,7 @@ is_again p r most dones messages new history lists fault next row handed now is 
 -- a turn with what it claims and how it ends
 record TurnPart (g : Graph) (level : ℕ → ℕ) (i : ℕ) (s : State) (turn : Turn) (most : ℕ) (fault : Option TurnFault) (late : Bool) (new : State) : Type 0 where
   is : IsTurn g level i s turn late new
-  all_or : late ≡ false → NothingSafe g is.ready.waits is.ready.busy turn.last ⊎ ((most ≤ length turn.claimed) ⊎ (most_claims ≤ is.ready.claims))
+  all_or : late ≡ false → NothingSafe g is.ready.waits is.ready.busy turn.last ⊎ ((most ≤ length turn.claimed) ⊎ (g.claims ≤ is.ready.claims))
   last : FaultsIfLast fault (IsLast g s turn.last late is.ready)
 
 -- the turn that was made

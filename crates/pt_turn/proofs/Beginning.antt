@@ -22,7 +22,7 @@ use Rattle.pt_semantics.proofs.Words.{when-false}
 use Rattle.pt_causality.specs.Units.{IsUnit}
 use Rattle.pt_offsets.proofs.Small.{past_kind}
 use Rattle.pt_queue.specs.Events.{value_in}
-use Rattle.pt_state.specs.State.{states_in}
+use Rattle.pt_turn.specs.Fields.State.{states_in}
 use Rattle.pt_turn.specs.Starting.{first_of_actor, start_of, starting_event, starting}
 
 -- an actor, read from the list of actors

@@ -12,11 +12,11 @@ use Rattle.pt_types.specs.declared.firing.OnLink.{OnLink}
 use Rattle.pt_types.specs.Ports.{when}
 use Rattle.pt_semantics.specs.Closing.{on_link}
 use Rattle.pt_types.specs.Lookups.{platform_of}
-use Rattle.pt_take.proofs.Messages.{on_more}
+use Rattle.pt_turn.proofs.Takes.Messages.{on_more}
 use Rattle.pt_semantics.specs.Lists.{Each, IsIn}
 use Rattle.pt_semantics.specs.Orderly.{ComesAfter, FitsStep, InOrder, IsOrderly}
 use Rattle.pt_semantics.specs.Platform.{State}
-use Rattle.pt_take.specs.Taken.{Arrive, Basis}
+use Rattle.pt_turn.specs.Takes.Taken.{Arrive, Basis}
 use Rattle.pt_turn.specs.Turned.{MayCome}
 
 each_front : {X : Type 0} (P : X → Type 0) (xs ys : List X) → Each P (xs ++ ys) → Each P xs

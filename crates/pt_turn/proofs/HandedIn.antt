@@ -16,8 +16,8 @@ use Rattle.pt_semantics.specs.Lists.{Each, first_of, or_else}
 use Rattle.pt_semantics.specs.Rows.{FitRows, FitsRow, NeverFalls, TimesRise}
 use Rattle.pt_semantics.specs.Units.{groups}
 use Rattle.pt_types.specs.Groups.{cell_of, input_group}
-use Rattle.pt_state.specs.State.{left_in, rows_at_sensors}
-use Rattle.pt_state.specs.Sensors.{AreSensors, IsSensor}
+use Rattle.pt_turn.specs.Fields.State.{left_in, rows_at_sensors}
+use Rattle.pt_turn.specs.Fields.Sensors.{AreSensors, IsSensor}
 use Rattle.pt_turn.specs.Handed.{rows_handed, unentered, AreHanded, IsHanded}
 
 -- input 0 is one of a unit's

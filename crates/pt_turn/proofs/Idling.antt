@@ -19,19 +19,18 @@ use Rattle.pt_causality.specs.Ranked.{level_of}
 use Rattle.pt_offsets.specs.Timings.{offset_of}
 use Rattle.pt_history.specs.Turns.{fresh}
 use Rattle.pt_history.specs.declared.history.History.{History}
-use Rattle.pt_state.specs.declared.fields.Fields.{Fields}
-use Rattle.pt_state.specs.State.{state_of}
+use Rattle.pt_turn.specs.declared.state.fields.Fields.{Fields}
+use Rattle.pt_turn.specs.Fields.State.{state_of}
 use Rattle.pt_turn.specs.declared.claim_step.Ending.TheVariants.{On}
 use Rattle.pt_turn.specs.declared.steps.Lists.{Lists}
 use Rattle.pt_turn.specs.Steps.{AreEmpty, IsMade, turn_of}
-use Rattle.pt_post.specs.Posted.{picked}
+use Rattle.pt_turn.specs.Posts.Posted.{picked}
 use Rattle.pt_turn.specs.declared.room.Room.{Room}
 use Rattle.pt_turn.specs.declared.platform.Platform.TheInside.{Inside}
 use Rattle.pt_turn.specs.Platforms.{IsPlatform, IsRoomy, platform_graph, messages_of}
 use Rattle.pt_turn.proofs.Again.{IsDone}
 use Rattle.pt_turn.proofs.NoRows.{none_enters, rows_stay}
 use Rattle.pt_turn.proofs.Readiness.{basis_of}
-use Rattle.pt_types.specs.Limits.{most_claims}
 
 -- a turn in which nothing is done
 record IsQuietTurn (g : Graph) (level : ℕ → ℕ) (i : ℕ) (s : State) (turn : Turn) (new : State) : Type 0 where
@@ -44,7 +43,7 @@ record IsIdle (g : Graph) (i : ℕ) (s : State) (r : ℕ) : Type 0 where
   safe : NothingSafe g s.waits s.busy r
   closes : CanClose g i s r → ⊥
 
-quiet_turn : (g : Graph) (level : ℕ → ℕ) (i : ℕ) (s : State) (r : ℕ) → ((p : ℕ) → s.reading ≡ Some p → p ≤ r) → s.claims ≤ most_claims → IsIdle g i s r → IsQuietTurn g level i s (fresh r) (raised s r)
+quiet_turn : (g : Graph) (level : ℕ → ℕ) (i : ℕ) (s : State) (r : ℕ) → ((p : ℕ) → s.reading ≡ Some p → p ≤ r) → s.claims ≤ g.claims → IsIdle g i s r → IsQuietTurn g level i s (fresh r) (raised s r)
 quiet_turn g level i s r rises few idle = record {
   is = record {
     rises = rises;
@@ -88,7 +87,7 @@ is_made p r most is rises idle =
       taken = record { rest = []; front = sym (append-nil p.lists.taken.items ∙ is.empty.taken); all = λ late. refl };
       few = subst (λ (ts : List Task). length ts ≤ most) (sym is.empty.claimed) (omega arith);
       all_or = λ late. inl safe;
-      last = λ h. ⊎_elim (λ (l : false ≡ true). false≢true l) (λ (m : (most_claims ≤ p.fields.claims) × (NothingSafe g part.is.ready.waits part.is.ready.busy r → ⊥)). m.1 safe) h;
+      last = λ h. ⊎_elim (λ (l : false ≡ true). false≢true l) (λ (m : (g.claims ≤ p.fields.claims) × (NothingSafe g part.is.ready.waits part.is.ready.busy r → ⊥)). m.1 safe) h;
     }
 
 -- what always holds of the next reading

@@ -15,18 +15,17 @@ use Rattle.pt_semantics.specs.Posting.{Posts, after_post}
 use Rattle.pt_semantics.specs.Safe.{NothingSafe}
 use Rattle.pt_semantics.specs.Taking.{Takes}
 use Rattle.pt_semantics.specs.Turn.{IsTurn, IsLast}
-use Rattle.pt_state.specs.declared.fields.Fields.{Fields}
-use Rattle.pt_state.specs.State.{busy_in, left_in, state_of}
-use Rattle.pt_claim.specs.Claimed.{AreClaimed}
-use Rattle.pt_post.specs.Posted.{ArePosted, NeverPosts, picked}
+use Rattle.pt_turn.specs.declared.state.fields.Fields.{Fields}
+use Rattle.pt_turn.specs.Fields.State.{busy_in, left_in, state_of}
+use Rattle.pt_turn.specs.Claims.Claimed.{AreClaimed}
+use Rattle.pt_turn.specs.Posts.Posted.{ArePosted, NeverPosts, picked}
 use Rattle.pt_turn.specs.declared.claim_step.Ending.{Ending}
 use Rattle.pt_turn.specs.declared.claim_step.Ending.TheVariants.{On, Late, Long}
 use Rattle.pt_turn.specs.Claiming.{EndsIn, HasClaimed, IsIdle}
-use Rattle.pt_take.specs.Taken.{Basis}
+use Rattle.pt_turn.specs.Takes.Taken.{Basis}
 use Rattle.pt_turn.specs.declared.steps.Lists.{Lists}
 use Rattle.pt_queue.specs.Events.{waiting_in}
 use Rattle.pt_turn.specs.Steps.{EndsAsLast, IsFront, IsMade, ShowsEnd, took_late}
-use Rattle.pt_types.specs.Limits.{most_claims}
 
 -- a state in which other messages were taken
 abbrev pub retaken : State → (ℕ → List Message) → State
@@ -44,10 +43,10 @@ never_posts g s k h = λ ds mid d posts busy. h ds (retaken mid s.taken) d (post
 pub record ClaimsPart (g : Graph) (old new : Fields) (r most : ℕ) (taken : List OnLink) (tasks : List Task) (ending : Ending) : Type 0 where
   pub claims : Claims g r (state_of old taken) tasks (state_of new taken)
   pub idle : took_late ending ≡ true → tasks ≡ []
-  pub greedy : tasks ≡ [] → (took_late ending ≡ true) ⊎ (IsIdle g new r ⊎ (most_claims ≤ old.claims))
+  pub greedy : tasks ≡ [] → (took_late ending ≡ true) ⊎ (IsIdle g new r ⊎ (g.claims ≤ old.claims))
   pub few : length tasks ≤ most
-  pub bound : new.claims ≤ most_claims
-  pub all_or : took_late ending ≡ false → IsIdle g new r ⊎ ((most ≤ length tasks) ⊎ (most_claims ≤ new.claims))
+  pub bound : new.claims ≤ g.claims
+  pub all_or : took_late ending ≡ false → IsIdle g new r ⊎ ((most ≤ length tasks) ⊎ (g.claims ≤ new.claims))
 
 -- a turn is late exactly where it ends so
 pub late_is : (g : Graph) (r : ℕ) (old new : Fields) (late : Bool) (ending : Ending) → EndsIn g r old new late ending → took_late ending ≡ late
@@ -56,10 +55,10 @@ late_is g r old new late Late h = sym h
 late_is g r old new late Long h = sym h.0
 
 -- nothing was claimed, so nothing is safe or all claims were made
-none_left : (X : Type 0) (most old new : ℕ) (tasks : List Task) → 1 ≤ most → new ≡ old + length tasks → tasks ≡ [] → X ⊎ ((most ≤ length tasks) ⊎ (most_claims ≤ new)) → X ⊎ (most_claims ≤ old)
-none_left X most old new tasks some count empty h =
+none_left : (X : Type 0) (in_all most old new : ℕ) (tasks : List Task) → 1 ≤ most → new ≡ old + length tasks → tasks ≡ [] → X ⊎ ((most ≤ length tasks) ⊎ (in_all ≤ new)) → X ⊎ (in_all ≤ old)
+none_left X in_all most old new tasks some count empty h =
     let none : length tasks ≡ 0 = ap length empty in
-    ⊎_elim (λ x. inl x) (λ k. ⊎_elim (λ (full : most ≤ length tasks). absurd (omega (arith, some, none, full))) (λ (all : most_claims ≤ new). inr (omega (arith, all, count, none))) k) h
+    ⊎_elim (λ x. inl x) (λ k. ⊎_elim (λ (full : most ≤ length tasks). absurd (omega (arith, some, none, full))) (λ (all : in_all ≤ new). inr (omega (arith, all, count, none))) k) h
 
 in_time : (g : Graph) (old new : Fields) (r most : ℕ) (taken : List OnLink) (before after : List Task) (ending : Ending) → took_late ending ≡ false → before ≡ [] → 1 ≤ most → AreClaimed g r most old new before after → ClaimsPart g old new r most taken after ending
 in_time g old new r most taken before after ending on empty some h =
@@ -67,13 +66,13 @@ in_time g old new r most taken before after ending on empty some h =
     record {
       claims = subst (λ cs. Claims g r (state_of old taken) cs (state_of new taken)) (sym list) (h.claims taken);
       idle = λ e. absurd (false≢true (sym on ∙ e));
-      greedy = λ e. inr (none_left (IsIdle g new r) most old.claims new.claims h.claimed some h.count (sym list ∙ e) h.all_or);
+      greedy = λ e. inr (none_left (IsIdle g new r) g.claims most old.claims new.claims h.claimed some h.count (sym list ∙ e) h.all_or);
       few = subst (λ (cs : List Task). length cs ≤ most) (sym list) h.at_most;
       bound = h.in_all;
-      all_or = λ e. subst (λ (cs : List Task). IsIdle g new r ⊎ ((most ≤ length cs) ⊎ (most_claims ≤ new.claims))) (sym list) h.all_or;
+      all_or = λ e. subst (λ (cs : List Task). IsIdle g new r ⊎ ((most ≤ length cs) ⊎ (g.claims ≤ new.claims))) (sym list) h.all_or;
     }
 
-too_late : (g : Graph) (old new : Fields) (r most : ℕ) (taken : List OnLink) (before after : List Task) (ending : Ending) → took_late ending ≡ true → before ≡ [] → old.claims ≤ most_claims → (new ≡ old) × (after ≡ before) → ClaimsPart g old new r most taken after ending
+too_late : (g : Graph) (old new : Fields) (r most : ℕ) (taken : List OnLink) (before after : List Task) (ending : Ending) → took_late ending ≡ true → before ≡ [] → old.claims ≤ g.claims → (new ≡ old) × (after ≡ before) → ClaimsPart g old new r most taken after ending
 too_late g old new r most taken before after ending off empty bound same =
     let none : after ≡ [] = same.1 ∙ empty in
     record {
@@ -81,23 +80,23 @@ too_late g old new r most taken before after ending off empty bound same =
       idle = λ e. none;
       greedy = λ e. inl off;
       few = subst (λ (cs : List Task). length cs ≤ most) (sym none) (omega arith);
-      bound = subst (λ (f : Fields). f.claims ≤ most_claims) (sym same.0) bound;
+      bound = subst (λ (f : Fields). f.claims ≤ g.claims) (sym same.0) bound;
       all_or = λ e. absurd (false≢true (sym e ∙ off));
     }
 
-pub claims_part : (g : Graph) (old new : Fields) (r most : ℕ) (taken : List OnLink) (before after : List Task) (late : Bool) (ending : Ending) → before ≡ [] → 1 ≤ most → old.claims ≤ most_claims → HasClaimed g r most old new before after late ending → ClaimsPart g old new r most taken after ending
+pub claims_part : (g : Graph) (old new : Fields) (r most : ℕ) (taken : List OnLink) (before after : List Task) (late : Bool) (ending : Ending) → before ≡ [] → 1 ≤ most → old.claims ≤ g.claims → HasClaimed g r most old new before after late ending → ClaimsPart g old new r most taken after ending
 claims_part g old new r most taken before after true ending empty some bound h = too_late g old new r most taken before after ending (late_is g r old new true ending h.ends) empty bound (h.none refl)
 claims_part g old new r most taken before after false ending empty some bound h = in_time g old new r most taken before after ending (late_is g r old new false ending h.ends) empty some (h.claimed refl)
 
 -- how a turn ends is what the definition of a last turn says
 pub ends_as : (g : Graph) (r : ℕ) (old new : Fields) (s ready : State) (late : Bool) (ending : Ending) → s.claims ≡ old.claims → ready.waits ≡ (state_of new []).waits → ready.busy ≡ (state_of new []).busy → EndsIn g r old new late ending → EndsAsLast g ending (IsLast g s r (took_late ending) ready)
 ends_as g r old new s ready late On count waits busy h = λ last. ⊎_elim (λ (l : false ≡ true). false≢true l)
-    (λ (l : (most_claims ≤ s.claims) × (NothingSafe g ready.waits ready.busy r → ⊥)). l.1 (subst (λ w. NothingSafe g w ready.busy r) (sym waits) (subst (λ b. NothingSafe g (state_of new []).waits b r) (sym busy) (h.1 (subst (λ n. most_claims ≤ n) count l.0))))) last
+    (λ (l : (g.claims ≤ s.claims) × (NothingSafe g ready.waits ready.busy r → ⊥)). l.1 (subst (λ w. NothingSafe g w ready.busy r) (sym waits) (subst (λ b. NothingSafe g (state_of new []).waits b r) (sym busy) (h.1 (subst (λ n. g.claims ≤ n) count l.0))))) last
 ends_as g r old new s ready late Late count waits busy h = inl refl
-ends_as g r old new s ready late Long count waits busy h = inr (subst (λ n. most_claims ≤ n) (sym count) h.1, λ nothing. h.2 (subst (λ w. NothingSafe g w (state_of new []).busy r) waits (subst (λ b. NothingSafe g ready.waits b r) busy nothing)))
+ends_as g r old new s ready late Long count waits busy h = inr (subst (λ n. g.claims ≤ n) (sym count) h.1, λ nothing. h.2 (subst (λ w. NothingSafe g w (state_of new []).busy r) waits (subst (λ b. NothingSafe g ready.waits b r) busy nothing)))
 
 -- one turn, by its five steps
-pub whole : (g : Graph) (level : ℕ → ℕ) (i r : ℕ) (s posted got ready new : State) (ps : List Done) (rs : List RowAt) (ts : List OnLink) (cs : List Task) (late : Bool) → ((p : ℕ) → s.reading ≡ Some p → p ≤ r) → Posts g s ps posted → rs ≡ all_due g r s.left → Takes g level i (after_rows posted r) ts late got → Claims g r (raised got r) cs ready → (late ≡ true → cs ≡ []) → (cs ≡ [] → (late ≡ true) ⊎ (NothingSafe g ready.waits ready.busy r ⊎ (most_claims ≤ s.claims))) → length cs ≤ 64 → ready.claims ≤ most_claims → Closes g i ready r late new → IsTurn g level i s (record { first = r; last = r; count = 1; posted = ps; rows = rs; taken = ts; claimed = cs; sent = [] }) late new
+pub whole : (g : Graph) (level : ℕ → ℕ) (i r : ℕ) (s posted got ready new : State) (ps : List Done) (rs : List RowAt) (ts : List OnLink) (cs : List Task) (late : Bool) → ((p : ℕ) → s.reading ≡ Some p → p ≤ r) → Posts g s ps posted → rs ≡ all_due g r s.left → Takes g level i (after_rows posted r) ts late got → Claims g r (raised got r) cs ready → (late ≡ true → cs ≡ []) → (cs ≡ [] → (late ≡ true) ⊎ (NothingSafe g ready.waits ready.busy r ⊎ (g.claims ≤ s.claims))) → length cs ≤ 64 → ready.claims ≤ g.claims → Closes g i ready r late new → IsTurn g level i s (record { first = r; last = r; count = 1; posted = ps; rows = rs; taken = ts; claimed = cs; sent = [] }) late new
 whole g level i r s posted got ready new ps rs ts cs late rises posts rows takes claims idle greedy few bound closes = record {
   rises = rises;
   span = omega arith;
@@ -143,7 +142,7 @@ is_made g w r most dones messages old before after new lists late ending few s =
           (subst (λ l. Takes g w.level w.platform (after_rows s.posted r) lists.taken.items l s.got) (sym s.is_late) s.takes)
           (subst (λ z. Claims g r z lists.claimed.items (state_of after all)) (sym s.reading) s.claims.claims)
           s.claims.idle
-          (λ e. ⊎_elim (λ (l : took_late ending ≡ true). inl l) (λ (o : IsIdle g after r ⊎ (most_claims ≤ before.claims)). inr (⊎_elim (λ (n : IsIdle g after r). inl n) (λ (m : most_claims ≤ before.claims). inr (subst (λ n. most_claims ≤ n) s.count m)) o)) (s.claims.greedy e))
+          (λ e. ⊎_elim (λ (l : took_late ending ≡ true). inl l) (λ (o : IsIdle g after r ⊎ (g.claims ≤ before.claims)). inr (⊎_elim (λ (n : IsIdle g after r). inl n) (λ (m : g.claims ≤ before.claims). inr (subst (λ n. g.claims ≤ n) s.count m)) o)) (s.claims.greedy e))
           (omega (arith, few, s.claims.few)) s.claims.bound
           (subst (λ l. Closes g w.platform (state_of after all) r l (state_of new all)) (sym s.is_late) s.closes);
       posted = s.are;
@@ -158,5 +157,5 @@ pub shows_end : (g : Graph) (r : ℕ) (old new done : Fields) (late : Bool) (end
 shows_end g r old new done late On claims queue opens count h = tt
 shows_end g r old new done late Late claims queue opens count h = tt
 shows_end g r old new done late Long claims queue opens count h =
-    let all : most_claims ≤ old.claims = h.1 in
+    let all : g.claims ≤ old.claims = h.1 in
     (omega (arith, claims, count h.0, all), λ idle. h.2 (subst (λ q. NothingSafe g (waiting_in q.events) (busy_in new.open_claims.items) r) queue (subst (λ v. NothingSafe g (waiting_in done.queue.events) (busy_in v.items) r) opens idle)))

@@ -10,8 +10,8 @@ use Rattle.pt_semantics.specs.Closing.{on_link}
 use Rattle.pt_causality.specs.Ranked.{level_of}
 use Rattle.pt_history.specs.declared.history.History.{History}
 use Rattle.pt_history.specs.Turns.{sending}
-use Rattle.pt_state.specs.Outbox.{OutboxView}
-use Rattle.pt_state.specs.State.{rows_at_sensors, state_of}
+use Rattle.pt_turn.specs.Fields.Outbox.{OutboxView}
+use Rattle.pt_turn.specs.Fields.State.{rows_at_sensors, state_of}
 use Rattle.pt_turn.specs.declared.room.Room.{Room}
 use Rattle.pt_turn.specs.declared.platform.Platform.TheInside.{Inside}
 use Rattle.pt_turn.specs.Gone.{FirstHasGone, last_sent}

@@ -2,7 +2,7 @@
 use Rattle.std.proofs.Common.{◌≡◌, ℕ, ◌≤◌, [], List, None, Bool, true, false, sym, subst}
 use Rattle.std.proofs.lemmas.Bool.{false≢true}
 use Rattle.pt_types.specs.declared.graph.Graph.{Graph}
-use Rattle.pt_types.specs.declared.graph.Unit.{Unit as Part}
+use Rattle.pt_types.specs.declared.graph.Unit.{Unit}
 use Rattle.pt_types.specs.declared.rows.Row.{Row}
 use Rattle.pt_semantics.proofs.LawfulEdges.{wired}
 use Rattle.pt_semantics.specs.Candidates.{HasMoved}
@@ -21,7 +21,7 @@ use Rattle.pt_turn.specs.Platforms.{level_at, rows_at, state_at}
 use Rattle.pt_turn.specs.Turned.{is_late}
 
 moves : (g : Graph) (level : ℕ → ℕ) (i : ℕ) (rows : ℕ → List Row) (turns : List Turn) (turn : Turn) (s new : State) (c : ℕ) (late : Bool) → late ≡ false → IsWired g → AreLevels g level → FitRows g rows → Legal g level i (opened g i rows) turns s → s.closed ≡ false → ((l : ℕ) → s.outbox l ≡ []) → IsNextReading g i s c → c ≤ turn.last →
-    (is : IsTurn g level i s turn late new) → ((u : Part) → is.posted.busy u ≡ None) → HasMoved g s turn is.ready new
+    (is : IsTurn g level i s turn late new) → ((u : Unit) → is.posted.busy u ≡ None) → HasMoved g s turn is.ready new
 moves g level i rows turns turn s new c true on wired levels fit legal is_open sent next late is handed = absurd (false≢true (sym on))
 moves g level i rows turns turn s new c false on wired levels fit legal is_open sent next late is handed = turns_move g level i rows turns turn s new c wired levels fit legal is_open sent next late is handed
 

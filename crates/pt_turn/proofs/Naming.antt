@@ -15,7 +15,7 @@ use Rattle.pt_semantics.proofs.Lookups.{none_some}
 use Rattle.pt_offsets.specs.declared.table.Offsets.{Offsets}
 use Rattle.pt_offsets.specs.Plans.{AreOffsets}
 use Rattle.pt_offsets.specs.Timings.{bound_in}
-use Rattle.pt_take.proofs.Messages.{bound_is}
+use Rattle.pt_turn.proofs.Takes.Messages.{bound_is}
 use Rattle.pt_turn.specs.Faults.{SomeIsLate}
 use Rattle.pt_turn.specs.Running.{LastIsLate}
 

@@ -13,9 +13,9 @@ use Rattle.pt_semantics.specs.Meaning.{Values, added, row_at}
 use Rattle.pt_semantics.specs.Platform.{State}
 use Rattle.pt_semantics.proofs.Lookups.{or_else_none, when_none}
 use Rattle.pt_laws.proofs.Rows.{due_split}
-use Rattle.pt_state.specs.declared.fields.Sensor.{Sensor}
-use Rattle.pt_state.specs.State.{left_in, rows_left}
-use Rattle.pt_enter.proofs.Sensors.{no_sensor}
+use Rattle.pt_turn.specs.declared.state.fields.Sensor.{Sensor}
+use Rattle.pt_turn.specs.Fields.State.{left_in, rows_left}
+use Rattle.pt_turn.proofs.Enters.Sensors.{no_sensor}
 
 -- none enters,
 pub none_enters : (left : ℕ → List Row) (r : ℕ) → ((a : ℕ) → due r (left a) ≡ []) → (xs : List ℕ) → flat_map (λ c. map {B = RowAt} (λ (z : Row). record { sensor = c; row = z }) (due r (left c))) xs ≡ []

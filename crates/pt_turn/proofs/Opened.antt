@@ -11,8 +11,8 @@ use Rattle.pt_semantics.specs.Meaning.{Values}
 use Rattle.pt_semantics.specs.Platform.{opened}
 use Rattle.pt_queue.specs.Groups.{AreGroups}
 use Rattle.pt_queue.specs.Events.{waiting_in}
-use Rattle.pt_state.specs.declared.fields.Fields.{Fields}
-use Rattle.pt_state.specs.State.{IsOpen, IsSound, busy_in, left_in, rows_at_sensors, state_of}
+use Rattle.pt_turn.specs.declared.state.fields.Fields.{Fields}
+use Rattle.pt_turn.specs.Fields.State.{IsOpen, IsSound, busy_in, left_in, rows_at_sensors, state_of}
 use Rattle.pt_turn.specs.Handed.{unentered, AreHanded}
 use Rattle.pt_turn.specs.Starting.{first_of_actor, starting}
 use Rattle.pt_turn.proofs.Beginning.{numbers, starting_unit}

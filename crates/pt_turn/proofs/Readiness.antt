@@ -8,10 +8,10 @@ use Rattle.pt_semantics.proofs.LawfulEdges.{wired}
 use Rattle.pt_semantics.specs.Wired.{IsWired}
 use Rattle.pt_semantics.specs.History.{claims_of}
 use Rattle.pt_causality.specs.Ranked.{level_of}
-use Rattle.pt_state.specs.State.{rows_at_sensors, state_of}
-use Rattle.pt_post.specs.Posted.{AreDone}
-use Rattle.pt_post.proofs.Fitting.{open_claims_fit}
-use Rattle.pt_take.specs.Taken.{Basis}
+use Rattle.pt_turn.specs.Fields.State.{rows_at_sensors, state_of}
+use Rattle.pt_turn.specs.Posts.Posted.{AreDone}
+use Rattle.pt_turn.proofs.Posts.Fitting.{open_claims_fit}
+use Rattle.pt_turn.specs.Takes.Taken.{Basis}
 use Rattle.pt_turn.specs.declared.fault.TurnFault.{TurnFault}
 use Rattle.pt_turn.specs.declared.room.Room.{Room}
 use Rattle.pt_turn.specs.declared.platform.Platform.TheInside.{Inside}

@@ -12,9 +12,9 @@ use Rattle.pt_types.specs.declared.rows.RowAt.{RowAt}
 use Rattle.pt_semantics.specs.Entering.{due}
 use Rattle.pt_semantics.specs.Readings.{later_of}
 use Rattle.pt_semantics.proofs.Lookups.{none_some}
-use Rattle.pt_state.specs.declared.fields.Fields.{Fields}
-use Rattle.pt_state.specs.State.{left_in}
-use Rattle.pt_state.specs.Sensors.{at_sensor}
+use Rattle.pt_turn.specs.declared.state.fields.Fields.{Fields}
+use Rattle.pt_turn.specs.Fields.State.{left_in}
+use Rattle.pt_turn.specs.Fields.Sensors.{at_sensor}
 use Rattle.pt_turn.specs.Steps.{HasRoom, count_due}
 use Rattle.pt_turn.specs.declared.steps.Lists.{Lists}
 use Rattle.pt_turn.specs.declared.room.Room.{Room}

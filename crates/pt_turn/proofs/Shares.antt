@@ -10,7 +10,7 @@ use Rattle.pt_types.specs.Lookups.{platform_of}
 use Rattle.pt_semantics.specs.Lists.{Each, first_of, or_else}
 use Rattle.pt_semantics.specs.Meaning.{rows_until}
 use Rattle.pt_semantics.specs.Rows.{FitRows, FitsRow, NeverFalls, TimesRise}
-use Rattle.pt_state.specs.Sensors.{RiseFrom}
+use Rattle.pt_turn.specs.Fields.Sensors.{RiseFrom}
 use Rattle.pt_turn.specs.Handed.{AreHanded, IsHanded, rows_handed, unentered}
 use Rattle.pt_sensors.specs.Listed.{rows_for}
 use Rattle.pt_sensors.specs.Places.{StandInPlace, of_run}

@@ -12,13 +12,13 @@ use Rattle.pt_semantics.specs.Paced.{IsNextReading}
 use Rattle.pt_semantics.specs.Platform.{State}
 use Rattle.pt_semantics.specs.Rows.{FitRows}
 use Rattle.pt_causality.specs.Ranked.{level_of}
-use Rattle.pt_state.specs.Sensors.{AreSensors}
+use Rattle.pt_turn.specs.Fields.Sensors.{AreSensors}
 use Rattle.pt_history.specs.declared.history.History.{History}
-use Rattle.pt_post.specs.Room.{leaving_open}
+use Rattle.pt_turn.specs.Posts.Room.{leaving_open}
 use Rattle.pt_queue.specs.Events.{waiting_in}
 use Rattle.pt_queue.specs.Groups.{AreGroups}
-use Rattle.pt_state.specs.declared.fields.Fields.{Fields}
-use Rattle.pt_state.specs.State.{busy_in, left_in, rows_at_sensors, state_of, states_in, IsOpen, IsSound}
+use Rattle.pt_turn.specs.declared.state.fields.Fields.{Fields}
+use Rattle.pt_turn.specs.Fields.State.{busy_in, left_in, rows_at_sensors, state_of, states_in, IsOpen, IsSound}
 use Rattle.pt_turn.specs.declared.steps.Lists.{Lists}
 use Rattle.pt_turn.specs.Steps.{NoneSeenBefore, count_due}
 use Rattle.pt_turn.specs.declared.room.Room.{Room}
@@ -27,7 +27,6 @@ use Rattle.pt_turn.specs.declared.platform.Platform.TheInside.{Inside}
 use Rattle.pt_turn.specs.Growing.{AreEnough, AreWider, FieldsMeet, HistoryIsWider, HistoryMeets, ListsAreWider, ListsMeet}
 use Rattle.pt_turn.specs.Platforms.{IsPlatform, IsRoomy, platform_graph, messages_of, raised_to}
 use Rattle.pt_turn.specs.Running.{Ran}
-use Rattle.pt_types.specs.Limits.{most_claims}
 
 abbrev pub wider : Inside → Fields → History → Lists → Option Room → Inside
 wider p fields history lists room = record { plan = p.plan; number = p.number; closing = p.closing; fields = fields; history = history; lists = lists; fault = p.fault; room = room; next = p.next; next_row = p.next_row }
@@ -64,7 +63,7 @@ is_wider p fields history lists room is f h l roomy = record {
   sensors = subst (λ v. AreSensors (platform_graph p) v.items) (sym f.sensors) is.sensors;
   fit = subst (λ v. FitRows (platform_graph p) (rows_at_sensors v.items)) (sym f.sensors) is.fit;
   closing = is.closing;
-  claims = subst (λ n. n ≤ most_claims) (sym f.claims) is.claims;
+  claims = subst (λ n. n ≤ (platform_graph p).claims) (sym f.claims) is.claims;
   ran = subst (λ v. Ran (platform_graph p) (level_of (arc_value p.plan).ranks) p.number (rows_at_sensors v.items) history.turns (state_of fields (messages_of history.turns)) p.fault) (sym f.sensors)
       (subst (λ ts. Ran (platform_graph p) (level_of (arc_value p.plan).ranks) p.number (rows_at_sensors p.fields.sensors.items) ts (state_of fields (messages_of ts)) p.fault) (sym h.turns)
       (subst (λ s. Ran (platform_graph p) (level_of (arc_value p.plan).ranks) p.number (rows_at_sensors p.fields.sensors.items) p.history.turns s p.fault) (sym (same_state p.fields fields (messages_of p.history.turns) f)) is.ran));

@@ -4,12 +4,11 @@ use Rattle.pt_types.specs.declared.graph.Graph.{Graph}
 use Rattle.pt_types.specs.declared.firing.Task.{Task}
 use Rattle.pt_semantics.specs.Safe.{NothingSafe}
 use Rattle.pt_queue.specs.Events.{waiting_in}
-use Rattle.pt_state.specs.declared.fields.Fields.{Fields}
-use Rattle.pt_state.specs.State.{busy_in}
-use Rattle.pt_claim.specs.Claimed.{AreClaimed}
+use Rattle.pt_turn.specs.declared.state.fields.Fields.{Fields}
+use Rattle.pt_turn.specs.Fields.State.{busy_in}
+use Rattle.pt_turn.specs.Claims.Claimed.{AreClaimed}
 use Rattle.pt_turn.specs.declared.claim_step.Ending.{Ending}
 use Rattle.pt_turn.specs.declared.claim_step.Ending.TheVariants.{On, Late, Long}
-use Rattle.pt_types.specs.Limits.{most_claims}
 
 -- no unit is safe at reading r
 abbrev pub IsIdle : Graph → Fields → ℕ → Type 0
@@ -23,9 +22,9 @@ EndsFull g f r Long = IsIdle g f r → ⊥
 
 -- how a turn ends: Late with a late message; else, if all claims were made before it, Long or On by whether a unit is safe
 abbrev pub EndsIn : Graph → ℕ → Fields → Fields → Bool → Ending → Type 0
-EndsIn g r old new late On = (late ≡ false) × (most_claims ≤ old.claims → IsIdle g new r)
+EndsIn g r old new late On = (late ≡ false) × (g.claims ≤ old.claims → IsIdle g new r)
 EndsIn g r old new late Late = late ≡ true
-EndsIn g r old new late Long = (late ≡ false) × (most_claims ≤ old.claims) × (IsIdle g new r → ⊥)
+EndsIn g r old new late Long = (late ≡ false) × (g.claims ≤ old.claims) × (IsIdle g new r → ⊥)
 
 -- a late turn claims nothing; any other claims the greedy list or its first tasks, and nothing if all claims were made
 pub record HasClaimed (g : Graph) (r most : ℕ) (old new : Fields) (before after : List Task) (late : Bool) (ending : Ending) : Type 0 where

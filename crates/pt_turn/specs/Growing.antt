@@ -3,8 +3,8 @@ use Rattle.std.specs.Prelude.{◌≡◌, ℕ, ◌+◌, ◌-◌, ◌*◌, ◌^◌
 use Rattle.pt_types.specs.declared.graph.Graph.{Graph}
 use Rattle.pt_history.specs.declared.history.History.{History}
 use Rattle.pt_history.specs.declared.room.Room.{Room as HistoryRoom}
-use Rattle.pt_state.specs.declared.fields.Fields.{Fields}
-use Rattle.pt_state.specs.Outbox.{OutboxView}
+use Rattle.pt_turn.specs.declared.state.fields.Fields.{Fields}
+use Rattle.pt_turn.specs.Fields.Outbox.{OutboxView}
 use Rattle.pt_turn.specs.declared.steps.Lists.{Lists}
 use Rattle.pt_turn.specs.Steps.{count_due}
 use Rattle.pt_turn.specs.declared.memory.Needs.{Needs}

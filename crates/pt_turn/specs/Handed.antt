@@ -7,8 +7,8 @@ use Rattle.pt_sensors.specs.declared.sensor_rows.SensorRows.{SensorRows}
 use Rattle.pt_types.specs.Lookups.{platform_of}
 use Rattle.pt_semantics.specs.Lists.{Each, first_of}
 use Rattle.pt_semantics.specs.Rows.{FitsRow, NeverFalls, TimesRise}
-use Rattle.pt_state.specs.declared.fields.Sensor.{Sensor}
-use Rattle.pt_state.specs.Sensors.{RiseFrom}
+use Rattle.pt_turn.specs.declared.state.fields.Sensor.{Sensor}
+use Rattle.pt_turn.specs.Fields.Sensors.{RiseFrom}
 
 -- the rows given for each actor; an actor without an entry has none
 abbrev pub rows_handed : List SensorRows → ℕ → List Row

@@ -2,7 +2,7 @@
 use Rattle.std.specs.Prelude.{◌≡◌, ℕ, ◌<◌, ◌≤◌, [], List, None, false}
 use Rattle.pt_types.specs.declared.firing.Done.{Done}
 use Rattle.pt_types.specs.declared.firing.OnLink.{OnLink}
-use Rattle.pt_types.specs.declared.graph.Unit.{Unit as Part}
+use Rattle.pt_types.specs.declared.graph.Unit.{Unit}
 use Rattle.pt_semantics.specs.Candidates.{HasMoved}
 use Rattle.pt_semantics.specs.Closing.{CanClose, on_link}
 use Rattle.pt_semantics.specs.Entering.{due}
@@ -24,7 +24,7 @@ pub record IsRunning (v : PlatformView) : Type 0 where
 -- while nothing is in an outbox: it posts, enters, claims or closes, or all claims were made before it and a unit is safe
 abbrev pub PlatformsMove : Type 0
 PlatformsMove = (old new : PlatformView) (reading most next : ℕ) (dones : List Done) (messages : List OnLink) → IsRunning old → (made : IsTurned old new reading most dones messages) → is_late new.fault ≡ false →
-    old.closed ≡ false → ((l : ℕ) → on_link l old.outbox ≡ []) → ((u : Part) → made.is.posted.busy u ≡ None) → IsNextReading old.plan.graph old.number (state_at old) next → next ≤ raised_to old.reading reading →
+    old.closed ≡ false → ((l : ℕ) → on_link l old.outbox ≡ []) → ((u : Unit) → made.is.posted.busy u ≡ None) → IsNextReading old.plan.graph old.number (state_at old) next → next ≤ raised_to old.reading reading →
     HasMoved old.plan.graph (state_at old) made.turn made.is.ready (state_at new)
 
 -- before its next reading, no row of a platform is due, no unit is safe, and it can't close

@@ -7,18 +7,17 @@ use Rattle.pt_semantics.specs.Kept.{kept_with}
 use Rattle.pt_semantics.specs.Paced.{IsClosing}
 use Rattle.pt_semantics.specs.Turn.{Turn}
 use Rattle.pt_offsets.specs.Plans.{Parts}
-use Rattle.pt_state.specs.declared.fields.Fields.{Fields}
-use Rattle.pt_state.specs.State.{IsSound}
-use Rattle.pt_post.specs.Posted.{AreDone}
-use Rattle.pt_state.specs.Sensors.{AreSensors}
-use Rattle.pt_take.specs.Taken.{Arrive, Basis}
+use Rattle.pt_turn.specs.declared.state.fields.Fields.{Fields}
+use Rattle.pt_turn.specs.Fields.State.{IsSound}
+use Rattle.pt_turn.specs.Posts.Posted.{AreDone}
+use Rattle.pt_turn.specs.Fields.Sensors.{AreSensors}
+use Rattle.pt_turn.specs.Takes.Taken.{Arrive, Basis}
 use Rattle.pt_history.specs.declared.room.Room.{Room as HistoryRoom}
 use Rattle.pt_turn.specs.declared.claim_step.Ending.{Ending}
 use Rattle.pt_turn.specs.declared.steps.Lists.{Lists}
 use Rattle.pt_turn.specs.Steps.{AreEmpty, HasRoom, IsGround, IsMade, ShowsEnd, count_due, turn_of}
 use Rattle.pt_turn.specs.declared.fault.TurnFault.{TurnFault}
 use Rattle.pt_turn.specs.Faults.{IsFaultOf}
-use Rattle.pt_types.specs.Limits.{most_claims}
 
 -- what a turn at reading r requires
 pub record IsReady (plan : Parts) (w : Basis) (number close_at r n : ℕ) (results : List Done) (messages : List OnLink) (f : Fields) (lists : Lists) : Type 0 where
@@ -31,7 +30,7 @@ pub record IsReady (plan : Parts) (w : Basis) (number close_at r n : ℕ) (resul
   pub dones : AreDone plan.graph results
   pub arrive : Arrive plan.graph w messages
   pub most : (1 ≤ n) × (n ≤ 64)
-  pub claims : f.claims ≤ most_claims
+  pub claims : f.claims ≤ plan.graph.claims
   pub room : HasRoom plan.graph f lists r (length results) (length messages) n
   pub empty : AreEmpty lists
 

@@ -14,17 +14,16 @@ use Rattle.pt_semantics.specs.Rows.{FitRows}
 use Rattle.pt_semantics.specs.Turn.{Turn}
 use Rattle.pt_causality.specs.Ranked.{level_of}
 use Rattle.pt_offsets.specs.Plans.{IsAdmitted, Parts}
-use Rattle.pt_state.specs.declared.fields.OpenClaim.{OpenClaim}
-use Rattle.pt_state.specs.declared.fields.Sensor.{Sensor}
+use Rattle.pt_turn.specs.declared.state.fields.OpenClaim.{OpenClaim}
+use Rattle.pt_turn.specs.declared.state.fields.Sensor.{Sensor}
 use Rattle.pt_queue.specs.Events.{waiting_in}
-use Rattle.pt_state.specs.State.{busy_in, left_in, rows_at_sensors, state_of, states_in, IsSound}
-use Rattle.pt_state.specs.Sensors.{AreSensors}
+use Rattle.pt_turn.specs.Fields.State.{busy_in, left_in, rows_at_sensors, state_of, states_in, IsSound}
+use Rattle.pt_turn.specs.Fields.Sensors.{AreSensors}
 use Rattle.pt_turn.specs.Steps.{AreEmpty, HasRoom, NoneSeenBefore, count_due}
 use Rattle.pt_turn.specs.declared.fault.TurnFault.{TurnFault}
 use Rattle.pt_turn.specs.declared.room.Room.{Room}
 use Rattle.pt_turn.specs.declared.platform.Platform.TheInside.{Inside}
 use Rattle.pt_turn.specs.Running.{Ran}
-use Rattle.pt_types.specs.Limits.{most_claims}
 
 -- platform `number` of a plan: its sensors with the rows that it opened with, its recorded turns, the parts of the state
 -- after them, why no turn may follow, and what turn it has memory for
@@ -113,7 +112,7 @@ pub record IsPlatform (p : Inside) : Type 0 where
   pub sensors : AreSensors (platform_graph p) p.fields.sensors.items
   pub fit : FitRows (platform_graph p) (rows_at_sensors p.fields.sensors.items)
   pub closing : IsClosing (platform_graph p) p.number p.closing
-  pub claims : p.fields.claims ≤ most_claims
+  pub claims : p.fields.claims ≤ (platform_graph p).claims
   pub ran : Ran (platform_graph p) (level_of (arc_value p.plan).ranks) p.number (rows_at_sensors p.fields.sensors.items) p.history.turns (state_of p.fields (messages_of p.history.turns)) p.fault
   pub empty : AreEmpty p.lists
   pub sent : length p.fields.outbox.items ≤ p.history.room.sent

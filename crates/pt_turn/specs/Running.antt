@@ -15,7 +15,6 @@ use Rattle.pt_semantics.specs.Safe.{NothingSafe}
 use Rattle.pt_semantics.specs.Turn.{IsLast, IsTurn, Turn}
 use Rattle.pt_turn.specs.declared.fault.TurnFault.{TurnFault}
 use Rattle.pt_turn.specs.declared.fault.TurnFault.TheVariants.{Late, Long}
-use Rattle.pt_types.specs.Limits.{most_claims}
 
 -- these turns of platform i lead from s to new; none is late, and after each of them another may follow
 abbrev pub GoesOn : Graph → (ℕ → ℕ) → ℕ → State → List Turn → State → Type 0
@@ -52,7 +51,7 @@ pub record ShowsLate (g : Graph) (turns : List Turn) (actor : ℕ) (tag : Tag) (
 
 -- all claims were made, and a unit is safe at the last reading
 pub record ShowsLong (g : Graph) (s : State) : Type 0 where
-  pub all : most_claims ≤ s.claims
+  pub all : g.claims ≤ s.claims
   pub reading : ℕ
   pub read : s.reading ≡ Some reading
   pub safe : NothingSafe g s.waits s.busy reading → ⊥

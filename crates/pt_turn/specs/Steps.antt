@@ -8,16 +8,15 @@ use Rattle.pt_semantics.specs.Entering.{all_due, due}
 use Rattle.pt_semantics.specs.Floor.{NeverTwice}
 use Rattle.pt_semantics.specs.Safe.{NothingSafe}
 use Rattle.pt_semantics.specs.Turn.{Turn, IsTurn, IsLast}
-use Rattle.pt_state.specs.declared.fields.Fields.{Fields}
-use Rattle.pt_state.specs.State.{busy_in, left_in, state_of}
-use Rattle.pt_post.specs.Posted.{ArePlaces, ArePosted, ClaimsFit, picked}
-use Rattle.pt_post.specs.Room.{leaving_open}
-use Rattle.pt_take.specs.Taken.{Basis}
+use Rattle.pt_turn.specs.declared.state.fields.Fields.{Fields}
+use Rattle.pt_turn.specs.Fields.State.{busy_in, left_in, state_of}
+use Rattle.pt_turn.specs.Posts.Posted.{ArePlaces, ArePosted, ClaimsFit, picked}
+use Rattle.pt_turn.specs.Posts.Room.{leaving_open}
+use Rattle.pt_turn.specs.Takes.Taken.{Basis}
 use Rattle.pt_turn.specs.declared.claim_step.Ending.{Ending}
 use Rattle.pt_turn.specs.declared.claim_step.Ending.TheVariants.{On, Late, Long}
 use Rattle.pt_turn.specs.declared.steps.Lists.{Lists}
 use Rattle.pt_turn.specs.Claiming.{IsIdle}
-use Rattle.pt_types.specs.Limits.{most_claims}
 
 -- what a history without a late turn guarantees to the next turn: no port gets two events of one tag, and tags fit 64 bits
 pub record IsGround (g : Graph) (w : Basis) (f : Fields) : Type 0 where
@@ -61,7 +60,7 @@ pub record FitIn (dones : List Done) (messages : List OnLink) (most : ℕ) (g : 
 abbrev pub ShowsEnd : Graph → ℕ → Fields → Ending → Type 0
 ShowsEnd g r new On = Unit {0}
 ShowsEnd g r new Late = Unit {0}
-ShowsEnd g r new Long = (most_claims ≤ new.claims) × (IsIdle g new r → ⊥)
+ShowsEnd g r new Long = (g.claims ≤ new.claims) × (IsIdle g new r → ⊥)
 
 -- the turn at a reading with these lists, given the results that came
 abbrev pub turn_of : ℕ → List Done → Lists → Turn
@@ -92,5 +91,5 @@ pub record IsMade (g : Graph) (w : Basis) (r most : ℕ) (dones : List Done) (me
   pub posted : ArePosted g (busy_in old.open_claims.items) dones (picked dones lists.posted.items)
   pub taken : IsFront messages lists.taken.items (took_late ending)
   pub few : length lists.claimed.items ≤ most
-  pub all_or : took_late ending ≡ false → NothingSafe g turn.ready.waits turn.ready.busy r ⊎ ((most ≤ length lists.claimed.items) ⊎ (most_claims ≤ turn.ready.claims))
+  pub all_or : took_late ending ≡ false → NothingSafe g turn.ready.waits turn.ready.busy r ⊎ ((most ≤ length lists.claimed.items) ⊎ (g.claims ≤ turn.ready.claims))
   pub last : EndsAsLast g ending (IsLast g (state_of old w.taken) r (took_late ending) turn.ready)

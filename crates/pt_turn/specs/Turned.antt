@@ -12,14 +12,13 @@ use Rattle.pt_semantics.specs.Orderly.{IsOrderly}
 use Rattle.pt_semantics.specs.Platform.{State}
 use Rattle.pt_semantics.specs.Safe.{NothingSafe}
 use Rattle.pt_semantics.specs.Turn.{IsLast, IsTurn, Turn}
-use Rattle.pt_state.specs.State.{busy_in}
-use Rattle.pt_post.specs.Posted.{ArePosted}
+use Rattle.pt_turn.specs.Fields.State.{busy_in}
+use Rattle.pt_turn.specs.Posts.Posted.{ArePosted}
 use Rattle.pt_turn.specs.Steps.{IsFront}
 use Rattle.pt_turn.specs.declared.fault.TurnFault.{TurnFault}
 use Rattle.pt_turn.specs.declared.fault.TurnFault.TheVariants.{Late, Long}
 use Rattle.pt_turn.specs.declared.room.Room.{Room}
 use Rattle.pt_turn.specs.Platforms.{PlatformView, level_at, raised_to, rows_at, state_at}
-use Rattle.pt_types.specs.Limits.{most_claims}
 
 -- these messages may come to platform i: each is on a link that leads there, and keeps that link's messages orderly
 pub record MayCome (g : Graph) (level : ℕ → ℕ) (i : ℕ) (s : State) (messages : List OnLink) : Type 0 where
@@ -53,7 +52,7 @@ pub record IsTurned (old new : PlatformView) (reading most : ℕ) (dones : List 
   pub posted : ArePosted old.plan.graph (busy_in old.open_claims) dones turn.posted
   pub taken : IsFront messages turn.taken (is_late new.fault)
   pub few : length turn.claimed ≤ most
-  pub all_or : is_late new.fault ≡ false → NothingSafe old.plan.graph is.ready.waits is.ready.busy turn.last ⊎ ((most ≤ length turn.claimed) ⊎ (most_claims ≤ is.ready.claims))
+  pub all_or : is_late new.fault ≡ false → NothingSafe old.plan.graph is.ready.waits is.ready.busy turn.last ⊎ ((most ≤ length turn.claimed) ⊎ (old.plan.graph.claims ≤ is.ready.claims))
   pub last : FaultsIfLast new.fault (IsLast old.plan.graph (state_at old) turn.last (is_late new.fault) is.ready)
   pub turns : new.turns ≡ kept_with old.turns turn
 

@@ -1,7 +1,6 @@
 //! Why a platform stops.
 
-use pt_tags::Tag;
-use pt_types::MOST_CLAIMS;
+use pt_tags::{Reading, Tag};
 use thiserror::Error;
 
 /// Why a platform makes no more turns.
@@ -13,10 +12,10 @@ pub enum TurnFault {
     Late {
         actor: u32,
         tag: Tag,
-        reading: u64,
+        reading: Reading,
         limit: u64,
     },
-    /// 200,000 claims were made, and a unit is still safe.
-    #[error("{most} claims were made, and a unit is still safe", most = MOST_CLAIMS)]
+    /// All claims were made, and a unit is still safe.
+    #[error("all claims were made, and a unit is still safe")]
     Long,
 }

@@ -7,12 +7,12 @@ ghost use Rattle.pt_history.specs.Turns.{fresh};
 ghost use Rattle.pt_turn.specs.Platforms.{state_at};
 ghost use Rattle.pt_turn.specs.Rested.{HasRested, IsAwake};
 
+use crate::claim::next_reading;
 use crate::kept_turn::raised_to;
 use crate::memory::keep_room;
 use crate::platform::Platform;
-use pt_claim::next_reading;
 use pt_history::{History, Room};
-use pt_tags::Memory;
+use pt_tags::{Memory, Reading};
 
 /// Room for one turn in which nothing happens.
 const ONE_TURN: Room = Room {
@@ -51,7 +51,7 @@ impl Platform {
     /// whether it did. The reading, in microseconds, is raised to the last one if it is smaller. If it returns `false`, or
     /// runs out of memory, nothing changes.
     #[inline(always)]
-    pub fn rest(&mut self, reading: u64) -> Result<bool, Memory>
+    pub fn rest(&mut self, reading: Reading) -> Result<bool, Memory>
         requires no_fault { self.old.fault ≡ None }
         ensures rested { IfOk result (λ rested. rested ≡ true → HasRested self.old self.new reading) }
         ensures awake { IfOk result (λ rested. rested ≡ false → self.new ≡ self.old) }
@@ -74,7 +74,7 @@ impl Platform {
 }
 
 /// Records a turn at a reading, in microseconds, in which nothing happens. If memory runs out, nothing changes.
-fn keep_quiet(history: &mut History, reading: u64) -> Result<(), Memory>
+fn keep_quiet(history: &mut History, reading: Reading) -> Result<(), Memory>
     ensures turns { OnOk result (history.new.turns ≡ kept_with history.old.turns (fresh reading)) }
     ensures sent { OnOk result (history.old.room.sent ≤ history.new.room.sent) }
     ensures refused { OnErr result (history.new ≡ history.old) }
@@ -88,7 +88,7 @@ fn keep_quiet(history: &mut History, reading: u64) -> Result<(), Memory>
 /// Reserves room for a turn and records it at a reading, in microseconds. If memory runs out, nothing changes. Not inlined, so
 /// that the caller stays short.
 #[inline(never)]
-fn keep_with_room(history: &mut History, reading: u64) -> Result<(), Memory>
+fn keep_with_room(history: &mut History, reading: Reading) -> Result<(), Memory>
     ensures turns { OnOk result (history.new.turns ≡ kept_with history.old.turns (fresh reading)) }
     ensures sent { OnOk result (history.old.room.sent ≤ history.new.room.sent) }
     ensures refused { OnErr result (history.new ≡ history.old) }

@@ -4,17 +4,18 @@ ghost use Rattle.std.specs.Prelude.{◌≡◌, ◌<◌, ◌≤◌, ◌++◌, [],
 ghost use Rattle.pt_history.specs.Lists.{on_last};
 ghost use Rattle.pt_history.specs.Turns.{claiming, entering, posting, taking};
 ghost use Rattle.pt_semantics.specs.Kept.{kept_with};
-ghost use Rattle.pt_post.specs.Posted.{ArePlaces, picked};
+ghost use Rattle.pt_turn.specs.Posts.Posted.{ArePlaces, picked};
 ghost use Rattle.pt_turn.specs.Steps.{AreEmpty, turn_of};
 ghost use Rattle.pt_turn.specs.Platforms.{raised_to};
 
 use crate::Lists;
 use pt_actors::{Done, Tasks};
 use pt_history::History;
+use pt_tags::Reading;
 use pt_types::{OnLink, RowAt, Task};
 
 /// The given reading, or the last one if that is greater, in microseconds.
-pub fn raised_to(last: Option<u64>, reading: u64) -> u64
+pub fn raised_to(last: Option<u64>, reading: Reading) -> u64
     ensures { result ≡ raised_to last reading }
 {
     match last {
@@ -28,7 +29,7 @@ pub fn raised_to(last: Option<u64>, reading: u64) -> u64
 #[inline(always)]
 pub fn keep(
     history: &mut History,
-    reading: u64,
+    reading: Reading,
     dones: &[Done],
     lists: &mut Lists,
     tasks: &mut Tasks,

@@ -9,27 +9,35 @@
 #![tactic(auto)]
 
 mod all_platforms;
+pub mod arrive;
+mod arriving;
+pub mod claim;
 mod claim_step;
-mod due_rows;
-mod entering;
+pub mod close;
+pub mod enter;
 mod fault;
 mod finished;
 mod idle;
 mod kept_turn;
 mod laws;
+mod live_entries;
 mod made_turn;
 mod memory;
 mod opened_fields;
 mod opening;
-mod outbox;
+mod opening_live;
+mod outgoing;
 mod pending_rows;
 mod platform;
+pub mod post;
 mod reserved;
 mod room;
 mod rows_by_platform;
 mod starting_events;
 mod starting_states;
+pub mod state;
 mod steps;
+pub mod take;
 mod turn_fault;
 mod turn_of;
 
@@ -38,6 +46,7 @@ pub use claim_step::Ending;
 pub use fault::TurnFault;
 pub use laws::{platforms_move, platforms_wait};
 pub use opened_fields::open_fields;
+pub use opening_live::open_live;
 pub use platform::Platform;
 pub use room::Room;
 pub use steps::{Lists, turn};

@@ -2,24 +2,24 @@
 
 ghost use Rattle.std.specs.Prelude.{◌≡◌, ◌+◌, ◌*◌, ◌<◌, ◌≤◌, ◌++◌, ℕ, None, Some, length};
 ghost use Rattle.pt_semantics.specs.Kept.{kept_with};
-ghost use Rattle.pt_state.specs.State.{left_in, rows_at_sensors, IsSound};
-ghost use Rattle.pt_state.specs.Sensors.{AreSensors};
-ghost use Rattle.pt_post.specs.Posted.{ArePlaces};
-ghost use Rattle.pt_take.specs.Taken.{Basis};
+ghost use Rattle.pt_turn.specs.Fields.State.{left_in, rows_at_sensors, IsSound};
+ghost use Rattle.pt_turn.specs.Fields.Sensors.{AreSensors};
+ghost use Rattle.pt_turn.specs.Posts.Posted.{ArePlaces};
+ghost use Rattle.pt_turn.specs.Takes.Taken.{Basis};
 ghost use Rattle.pt_turn.specs.declared.claim_step.Ending.TheVariants.{Late};
 ghost use Rattle.pt_turn.specs.Faults.{IsFaultOf, SomeIsLate};
 ghost use Rattle.pt_turn.specs.Steps.{AreEmpty, NoneSeenBefore, turn_of};
 ghost use Rattle.pt_turn.specs.Making.{CanKeep, IsRecordedTurn, IsReady};
-ghost use Rattle.pt_types.specs.Limits.{most_claims};
 
 use crate::fault::TurnFault;
 use crate::kept_turn::keep;
+use crate::state::Fields;
 use crate::turn_fault::fault_of;
 use crate::{Ending, Lists, turn};
 use pt_actors::{Done, Tasks};
 use pt_history::History;
 use pt_offsets::Plan;
-use pt_state::Fields;
+use pt_tags::Reading;
 use pt_types::OnLink;
 
 /// Makes a turn at a reading (in microseconds) that is not before the last, records it, and appends its claims to `tasks`.
@@ -30,7 +30,7 @@ pub fn make(
     plan: &Plan,
     number: u32,
     closing: u64,
-    reading: u64,
+    reading: Reading,
     dones: &[Done],
     messages: &[OnLink],
     most: usize,
@@ -51,7 +51,7 @@ pub fn make(
     ensures sensors { AreSensors plan.now.graph fields.new.sensors.items }
     ensures all_rows { (a : ℕ) → rows_at_sensors fields.new.sensors.items a ≡ rows_at_sensors fields.old.sensors.items a }
     ensures reading { fields.new.reading ≡ Some reading }
-    ensures claims { fields.new.claims ≤ most_claims }
+    ensures claims { fields.new.claims ≤ plan.now.graph.claims }
     ensures empty { AreEmpty lists.new }
     ensures outbox { length fields.new.outbox.items ≤ length fields.old.outbox.items + length dones.now * length plan.now.graph.links + length plan.now.graph.links }
     ensures sent { history.new.room.sent ≡ history.old.room.sent }
@@ -77,7 +77,7 @@ fn keep_last(
     ending: Ending,
     last: Option<u64>,
     history: &mut History,
-    reading: u64,
+    reading: Reading,
     dones: &[Done],
     lists: &mut Lists,
     tasks: &mut Tasks,

@@ -6,8 +6,8 @@ ghost use Rattle.pt_turn.specs.Steps.{AreEmpty};
 ghost use Rattle.pt_history.specs.Turns.{larger};
 
 use crate::Lists;
+use crate::state::Fields;
 use pt_history::{History, Room};
-use pt_state::Fields;
 use pt_tags::Memory;
 
 /// How much a turn may need.

@@ -1,19 +1,19 @@
 //! The state with which a platform opens.
 
-ghost use Rattle.std.specs.Prelude.{◌≡◌, [], None, false, IfOk};
+ghost use Rattle.std.specs.Prelude.{◌≡◌, [], None, false, IfOk, map};
 ghost use Rattle.pt_semantics.specs.Platform.{opened};
 ghost use Rattle.pt_semantics.specs.Rows.{FitRows};
 ghost use Rattle.pt_offsets.specs.Plans.{IsAdmitted};
-ghost use Rattle.pt_state.specs.State.{rows_at_sensors, state_of, IsSound};
-ghost use Rattle.pt_state.specs.Sensors.{AreSensors};
-ghost use Rattle.pt_turn.specs.Handed.{rows_handed, AreHanded};
+ghost use Rattle.pt_turn.specs.Fields.State.{rows_at_sensors, state_of, IsSound};
+ghost use Rattle.pt_turn.specs.Fields.Sensors.{AreSensors};
+ghost use Rattle.pt_turn.specs.Handed.{rows_handed, unentered, AreHanded};
 
 use crate::pending_rows::all_unentered;
 use crate::starting_events::starting;
 use crate::starting_states::first_states;
+use crate::state::{Fields, OpenClaims, Outbox};
 use pt_offsets::Plan;
 use pt_sensors::SensorRows;
-use pt_state::{Fields, OpenClaims, Outbox};
 use pt_tags::Memory;
 use std::alloc::Global;
 
@@ -28,6 +28,7 @@ pub fn open_fields(
     ensures admitted { IsAdmitted plan.now }
     ensures opened { IfOk result (λ fields. state_of fields [] ≡ opened plan.now.graph platform (rows_at_sensors fields.sensors.items)) }
     ensures rows { IfOk result (λ fields. rows_at_sensors fields.sensors.items ≡ rows_handed rows.items) }
+    ensures entries { IfOk result (λ fields. fields.sensors.items ≡ map unentered rows.items) }
     ensures fit { IfOk result (λ fields. FitRows plan.now.graph (rows_at_sensors fields.sensors.items)) }
     ensures sound { IfOk result (λ fields. IsSound plan.now.graph fields) }
     ensures sensors { IfOk result (λ fields. AreSensors plan.now.graph fields.sensors.items) }

@@ -1,15 +1,16 @@
 //! Opening a platform, and its next reading.
 
-ghost use Rattle.std.specs.Prelude.{◌≡◌, [], None, IfOk, MatchOption, true, false};
+ghost use Rattle.std.specs.Prelude.{◌≡◌, [], None, IfOk, MatchOption, map, true, false};
 ghost use Rattle.std.specs.Arc.{arc_value};
 ghost use Rattle.pt_semantics.specs.Paced.{IsNextReading};
-ghost use Rattle.pt_turn.specs.Handed.{rows_handed, AreHanded};
+ghost use Rattle.pt_turn.specs.Handed.{rows_handed, unentered, AreHanded};
 ghost use Rattle.pt_turn.specs.Platforms.{rows_at, state_at};
 
+use crate::claim::next_reading;
+use crate::close::closing_reading;
 use crate::platform::Platform;
 use crate::reserved::Reserved;
 use crate::{Lists, open_fields};
-use pt_claim::{closing_reading, next_reading};
 use pt_history::History;
 use pt_offsets::Plan;
 use pt_sensors::SensorRows;
@@ -30,6 +31,7 @@ impl Platform {
         ensures plan { IfOk result (λ opened. opened.plan ≡ arc_value plan) }
         ensures number { IfOk result (λ opened. opened.number ≡ platform) }
         ensures rows { IfOk result (λ opened. rows_at opened ≡ rows_handed rows.items) }
+        ensures sensors { IfOk result (λ opened. opened.sensors ≡ map unentered rows.items) }
         ensures turns { IfOk result (λ opened. opened.turns ≡ []) }
         ensures new { IfOk result (λ opened. (opened.fault ≡ None) × (opened.room ≡ None) × (opened.open_claims ≡ []) × (opened.outbox ≡ []) × (opened.reading ≡ None)) }
     {

@@ -3,8 +3,8 @@
 ghost use Rattle.std.specs.Prelude.{◌≡◌, IfOk, map};
 ghost use Rattle.pt_turn.specs.Handed.{unentered};
 
+use crate::state::Sensor;
 use pt_sensors::SensorRows;
-use pt_state::Sensor;
 use std::alloc::{AllocError, Global};
 
 /// A sensor none of whose rows has entered.

@@ -2,23 +2,23 @@
 
 ghost use Rattle.std.specs.Prelude.{IfSome, ◌≡◌, ◌≤◌, ℕ, OnErr, OnOk, Some, length};
 ghost use Rattle.pt_semantics.specs.Entering.{all_due};
-ghost use Rattle.pt_state.specs.State.{left_in};
+ghost use Rattle.pt_turn.specs.Fields.State.{left_in};
 ghost use Rattle.pt_turn.specs.Growing.{AreEnough};
 ghost use Rattle.pt_turn.specs.Platforms.{raised_to};
 ghost use Rattle.pt_turn.specs.Steps.{count_due};
 
-use crate::due_rows::count_due;
+use crate::enter::count_due;
 use crate::kept_turn::raised_to;
 use crate::memory::{Needs, make_room};
 use crate::platform::Platform;
+use crate::state::Fields;
 use pt_offsets::Plan;
-use pt_state::Fields;
-use pt_tags::Memory;
+use pt_tags::{Memory, Reading};
 
 /// The turn to reserve memory for: its reading, in microseconds, and how many results, messages and claims it may have.
 #[derive(Clone, Copy, Debug, PartialEq, Eq)]
 pub struct Room {
-    pub reading: u64,
+    pub reading: Reading,
     pub done: usize,
     pub taken: usize,
     pub most: usize,
@@ -63,7 +63,7 @@ impl Platform {
     #[inline(never)]
     fn room_with_rows(
         &mut self,
-        reading: u64,
+        reading: Reading,
         done: usize,
         taken: usize,
         most: usize,

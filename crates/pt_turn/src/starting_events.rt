@@ -9,12 +9,12 @@ ghost use Rattle.pt_queue.specs.Events.{waiting_in};
 ghost use Rattle.pt_turn.specs.Starting.{start_of, starting_event, starting};
 
 use pt_queue::Queue;
-use pt_tags::{Memory, Tag};
+use pt_tags::{Memory, Tag, Time};
 use pt_types::{Event, Graph, Kind};
 use std::alloc::Global;
 
 /// The time at which an actor of this kind begins by itself; `None` if it doesn't, or only past the horizon.
-fn start_of(kind: &Kind, until: u64) -> Option<u64>
+fn start_of(kind: &Kind, until: Time) -> Option<u64>
     ensures { result ≡ start_of kind.now until }
 {
     match kind {

@@ -2,21 +2,21 @@
 
 ghost use Rattle.std.specs.Prelude.{◌≡◌, ◌+◌, ◌*◌, ◌≤◌, ℕ, Some, length};
 ghost use Rattle.pt_semantics.specs.Paced.{IsClosing};
-ghost use Rattle.pt_state.specs.State.{left_in, rows_at_sensors, IsSound};
-ghost use Rattle.pt_post.specs.Posted.{AreDone};
-ghost use Rattle.pt_state.specs.Sensors.{AreSensors};
-ghost use Rattle.pt_take.specs.Taken.{Arrive, Basis};
+ghost use Rattle.pt_turn.specs.Fields.State.{left_in, rows_at_sensors, IsSound};
+ghost use Rattle.pt_turn.specs.Posts.Posted.{AreDone};
+ghost use Rattle.pt_turn.specs.Fields.Sensors.{AreSensors};
+ghost use Rattle.pt_turn.specs.Takes.Taken.{Arrive, Basis};
 ghost use Rattle.pt_turn.specs.Steps.{AreEmpty, FitIn, HasRoom, IsGround, IsMade, NoneSeenBefore, ShowsEnd};
-ghost use Rattle.pt_types.specs.Limits.{most_claims};
 
 use crate::claim_step::{Ending, claim_unless};
-use crate::entering::enter_from;
+use crate::close::close;
+use crate::enter::enter_from;
+use crate::post::posts;
+use crate::state::Fields;
+use crate::take::takes;
 use pt_actors::Done;
-use pt_close::close;
 use pt_offsets::Plan;
-use pt_post::posts;
-use pt_state::Fields;
-use pt_take::takes;
+use pt_tags::Reading;
 use pt_types::{OnLink, RowAt, Task};
 
 /// What a turn did: the results posted, the rows entered, the messages taken, and the tasks claimed.
@@ -39,7 +39,7 @@ pub fn turn(
     plan: &Plan,
     number: u32,
     closing: u64,
-    reading: u64,
+    reading: Reading,
     dones: &[Done],
     messages: &[OnLink],
     most: usize,
@@ -56,7 +56,7 @@ pub fn turn(
     requires dones { AreDone plan.now.graph dones.now }
     requires arrive { Arrive plan.now.graph basis messages.now }
     requires most { (1 ≤ most) × (most ≤ 64) }
-    requires claims { fields.old.claims ≤ most_claims }
+    requires claims { fields.old.claims ≤ plan.now.graph.claims }
     requires room { HasRoom plan.now.graph fields.old lists.old reading (length dones.now) (length messages.now) most }
     requires empty { AreEmpty lists.old }
     requires next_row { NoneSeenBefore next_row.old (left_in fields.old.sensors.items) }
@@ -65,7 +65,7 @@ pub fn turn(
     ensures made { IsMade plan.now.graph basis reading most dones.now messages.now fields.old fields.new lists.new result }
     ensures all_rows { (a : ℕ) → rows_at_sensors fields.new.sensors.items a ≡ rows_at_sensors fields.old.sensors.items a }
     ensures reading { fields.new.reading ≡ Some reading }
-    ensures claims { fields.new.claims ≤ most_claims }
+    ensures claims { fields.new.claims ≤ plan.now.graph.claims }
     ensures few { FitIn dones.now messages.now most plan.now.graph reading fields.old lists.new }
     ensures full { ShowsEnd plan.now.graph reading fields.new result }
     ensures outbox { length fields.new.outbox.items ≤ length fields.old.outbox.items + length dones.now * length plan.now.graph.links + length plan.now.graph.links }

@@ -1,7 +1,7 @@
 //! A turn of a platform.
 
 ghost use Rattle.std.specs.Prelude.{◌≡◌, ◌≤◌, ◌++◌, MatchOption, None, Some, length};
-ghost use Rattle.pt_post.specs.Posted.{AreDone};
+ghost use Rattle.pt_turn.specs.Posts.Posted.{AreDone};
 ghost use Rattle.pt_turn.specs.Platforms.{level_at, state_at};
 ghost use Rattle.pt_turn.specs.declared.fault.TurnFault.{TurnFault};
 ghost use Rattle.pt_turn.specs.Turned.{IsEnough, IsTurned, MayCome, StaysThere};
@@ -10,6 +10,7 @@ use crate::kept_turn::raised_to;
 use crate::made_turn::make;
 use crate::platform::Platform;
 use pt_actors::{Done, Tasks};
+use pt_tags::Reading;
 use pt_types::OnLink;
 
 impl Platform {
@@ -17,12 +18,12 @@ impl Platform {
     /// of open claims, enters the rows that are seen, takes messages up to and including the first that is late, claims at
     /// most `most` units, whose tasks are appended to `tasks`, and closes if nothing is left to do.
     ///
-    /// If a message was late, or 200,000 claims were made before it and a unit is safe, the platform then has a `fault`. From
+    /// If a message was late, or all claims were made before it and a unit is safe, the platform then has a `fault`. From
     /// then on a turn changes nothing. Allocates nothing: `room` has reserved the memory.
     #[inline(always)]
     pub fn turn(
         &mut self,
-        reading: u64,
+        reading: Reading,
         done: &[Done],
         taken: &[OnLink],
         most: usize,

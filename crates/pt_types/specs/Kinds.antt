@@ -1,11 +1,12 @@
 -- The visible ports of each kind, and the ranges of its parameters.
 use Rattle.std.specs.Prelude.{ℕ, ℤ, pos, negsuc, ◌&&◌, Bool, true, length, sum, nat_le, int_le, nat_lt, Option, Some, None}
 use Rattle.std.specs.List.{list_all}
+use Rattle.pt_types.specs.Limits.{most_time}
 use Rattle.pt_types.specs.Names.{is_file}
 use Rattle.pt_types.specs.declared.kind.Kind.{Kind}
 use Rattle.pt_types.specs.declared.kind.Kind.TheVariants.{Sensor, Receive, Send, Actuator, Scale, Add, Sub, Merge, Delay, Latch, Machine, Every, Block, Lanes}
 use Rattle.pt_types.specs.declared.kind.Law.{Law}
-use Rattle.pt_types.specs.declared.kind.Law.TheVariants.{Least, Greatest, Middle, Deadband, Weighted}
+use Rattle.pt_types.specs.declared.kind.Law.TheVariants.{Least, Greatest, Middle, Deadband, Weighted, Formula}
 use Rattle.pt_types.specs.declared.kind.MachineRow.{MachineRow}
 
 -- the number of inputs that wires of the file can lead to
@@ -44,7 +45,7 @@ is_among low high n = nat_le low n && nat_le n high
 
 -- a time in microseconds: at most 10 ^ 15, about 31 years
 abbrev pub is_time : ℕ → Bool
-is_time t = nat_le t 1000000000000000
+is_time t = nat_le t most_time
 
 -- the parameters of a law are in their ranges
 abbrev pub law_in_range : Law → Bool
@@ -53,6 +54,7 @@ law_in_range Greatest = true
 law_in_range (Middle low high) = int_le low high
 law_in_range (Deadband width) = int_le (pos 0) width
 law_in_range (Weighted num den) = int_le (pos 0) num && int_le num den && is_between (pos 1) (pos 1000000000) den
+law_in_range (Formula steps) = nat_le (length steps) 64
 
 -- the output is below the number of outputs
 abbrev pub emit_is_lawful : ℕ → Option (ℕ × ℤ) → Bool
@@ -75,7 +77,7 @@ kind_is_lawful (Scale num den) = is_between (negsuc 999999999) (pos 1000000000) 
 kind_is_lawful (Merge n) = is_among 2 8 n
 kind_is_lawful (Delay d) = is_time d
 kind_is_lawful (Machine start outputs rows) = is_among 1 8 outputs && nat_le (length rows) 64 && list_all (row_is_lawful outputs) rows
-kind_is_lawful (Every start period) = is_time start && is_among 1 1000000000000000 period
+kind_is_lawful (Every start period) = is_time start && is_among 1 most_time period
 kind_is_lawful (Block block law) = law_in_range law
 kind_is_lawful (Lanes cells) = is_among 1 8 (length cells) && list_all (is_among 1 8) cells && nat_le (sum cells) 8
 kind_is_lawful _ = true

@@ -8,6 +8,7 @@ use Rattle.pt_types.specs.declared.graph.Link.{Link}
 use Rattle.pt_types.specs.declared.graph.PairError.{PairError}
 use Rattle.pt_types.specs.declared.kind.Kind.{Kind}
 use Rattle.pt_types.specs.declared.kind.Kind.TheVariants.{Lanes}
+use Rattle.pt_types.specs.Limits.{greatest_claims}
 use Rattle.pt_types.specs.Names.{is_name}
 use Rattle.pt_types.specs.Kinds.{kind_is_lawful, is_time, visible_inputs, visible_outputs}
 use Rattle.pt_types.specs.Groups.{is_pair_of}
@@ -49,6 +50,8 @@ cell_count _ = 0
 pub record IsLawful (g : Graph) : Type 0 where
   pub until : is_time g.until ≡ true
   pub clock_error : is_time g.clock_error ≡ true
+  -- a command states no greater number of claims
+  pub few_claims : g.claims ≤ greatest_claims
   -- the limits on the numbers of parts
   pub some_platform : 1 ≤ length g.platforms
   pub few_platforms : length g.platforms ≤ 16

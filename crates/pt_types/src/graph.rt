@@ -1,15 +1,17 @@
 //! The graph of actors.
 
 use crate::kind::Kind;
-use pt_tags::{Delay, List, Name};
+use pt_tags::{Delay, List, Name, Time};
 
 /// A program: a graph of actors on platforms with synchronised clocks (RTAS 2007).
 #[derive(Drop)]
 pub struct Graph {
     /// The horizon in microseconds of model time: no event is later.
-    pub until: u64,
+    pub until: Time,
     /// The greatest difference between the clocks of two platforms, in microseconds, unless `clock_errors` states another.
     pub clock_error: u64,
+    /// The most claims that a platform makes in a run: 200,000, unless the command states another number.
+    pub claims: u64,
     /// The names of the platforms, in file order.
     pub platforms: List<Name>,
     /// The actors, in file order.

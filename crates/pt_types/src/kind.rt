@@ -1,6 +1,10 @@
 //! The kinds of actors.
 
-use pt_tags::{List, Name};
+ghost use Rattle.std.specs.Prelude.{◌≡◌, IfOk};
+
+use pt_formula::Step;
+use pt_tags::{List, Name, Time};
+use std::alloc::{AllocError, Global};
 
 /// The kind of an actor, with its parameters. Times are whole microseconds.
 #[derive(Drop)]
@@ -59,7 +63,7 @@ pub enum Kind {
     },
     /// Gives 0, 1, 2 and so on, at `start` and then every `period`.
     Every {
-        start: u64,
+        start: Time,
         period: u64,
     },
     /// Gives the value that block number `block` computes, by its law.
@@ -74,7 +78,7 @@ pub enum Kind {
 }
 
 /// A row of a machine: it fits if the state is `state`, the input is from `low` to `high`, and the guard holds.
-#[derive(Clone, Copy, Debug, PartialEq, Eq)]
+#[derive(Drop)]
 pub struct MachineRow {
     pub state: i64,
     pub low: i64,
@@ -88,7 +92,7 @@ pub struct MachineRow {
 }
 
 /// The law of a block: what it computes of two values a and b.
-#[derive(Clone, Copy, Debug, PartialEq, Eq)]
+#[derive(Drop)]
 pub enum Law {
     /// The lesser of a and b.
     Least,
@@ -100,4 +104,32 @@ pub enum Law {
     Deadband { width: i64 },
     /// (a * num + b * (den - num)) / den, cut toward zero.
     Weighted { num: i64, den: i64 },
+    /// The value of this formula, of at most 64 steps.
+    Formula(List<Step>),
+}
+
+impl Law {
+    /// A copy.
+    pub fn copy(&self, alloc: Global) -> Result<Law, AllocError>
+        ensures { IfOk result (λ law. law ≡ self.now) }
+    {
+        let law = match self {
+            Law::Least => Law::Least,
+            Law::Greatest => Law::Greatest,
+            Law::Middle { low, high } => Law::Middle {
+                low: *low,
+                high: *high,
+            },
+            Law::Deadband { width } => Law::Deadband { width: *width },
+            Law::Weighted { num, den } => Law::Weighted {
+                num: *num,
+                den: *den,
+            },
+            Law::Formula(steps) => Law::Formula(List::new(Vec::from_slice(
+                alloc,
+                steps.as_slice(),
+            )?)),
+        };
+        Ok(law)
+    }
 }

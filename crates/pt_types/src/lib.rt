@@ -6,6 +6,7 @@
 //! Read first: `Graph`, then `Kind`.
 #![tactic(auto)]
 
+mod air;
 mod firing;
 mod graph;
 mod kind;
@@ -15,9 +16,10 @@ mod ports;
 mod rows;
 mod units;
 
+pub use air::{Air, InAir};
 pub use firing::{ActorFiring, Done, Event, Fired, OnLink, Task};
 pub use graph::{Actor, Edge, Graph, Link, PairError, Unit, Wire};
 pub use kind::{Kind, Law, MachineRow};
-pub use limits::{MOST_CLAIMS, MOST_GRAPH_BYTES};
+pub use limits::{MOST_GRAPH_BYTES, MOST_LOG_BYTES, MOST_TIME, USUAL_CLAIMS};
 pub use ports::Ports;
 pub use rows::{Row, RowAt};

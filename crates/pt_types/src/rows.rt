@@ -1,12 +1,14 @@
 //! Rows of sensors.
 
+use pt_tags::{Reading, Time};
+
 /// A row: an event of a sensor.
 #[derive(Clone, Copy, Debug, PartialEq, Eq)]
 pub struct Row {
     /// The time of the event, in microseconds of model time.
-    pub time: u64,
+    pub time: Time,
     /// The clock reading at which the platform sees it, in microseconds.
-    pub seen: u64,
+    pub seen: Reading,
     pub value: i64,
 }
 

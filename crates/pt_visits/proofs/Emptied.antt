@@ -10,7 +10,8 @@ use Rattle.pt_types.specs.declared.graph.Link.{Link}
 use Rattle.pt_types.specs.declared.firing.OnLink.{OnLink}
 use Rattle.pt_semantics.specs.Turn.{is_empty}
 use Rattle.pt_types.specs.Lookups.{platform_of}
-use Rattle.pt_visits.specs.Pipes.{arriving, emptied, leads_to, put_on}
+use Rattle.pt_visits.specs.Pipes.{arriving, emptied, put_on}
+use Rattle.pt_semantics.specs.Visits.{leads_to}
 
 -- one link more, whose pipe holds these messages
 pub arriving_at : (g : Graph) (i n : ℕ) (pipes : List (List Message)) (d : List Message) → n < length pipes → arriving g i n (drop n pipes) ≡ (if leads_to g i (slice_get g.links n) then map (put_on n) (get_or pipes n d) else []) ++ arriving g i (n + 1) (drop (n + 1) pipes)

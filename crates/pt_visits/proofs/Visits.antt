@@ -1,5 +1,5 @@
 -- A turn and what is sent after it are a visit.
-use Rattle.std.proofs.Common.{◌≡◌, ℕ, min, ◌+◌, ◌-◌, ◌<◌, ◌≤◌, Bool, List, [], ◌∷◌, ◌++◌, Option, Some, length, map, take, zero, suc, refl, inl, inr, append-nil, sym, ap, subst, ◌∙◌, length-append, arith}
+use Rattle.std.proofs.Common.{◌≡◌, ℕ, min, ◌+◌, ◌-◌, ◌<◌, ◌≤◌, List, [], ◌∷◌, ◌++◌, Option, Some, length, map, take, zero, suc, refl, inl, inr, append-nil, sym, ap, subst, ◌∙◌, length-append, arith}
 use Rattle.std.proofs.lemmas.List.{length-take}
 use Rattle.std.proofs.lemmas.Option.{slice_get_cases}
 use Rattle.pt_tags.specs.declared.message.Message.{Message}
@@ -14,9 +14,9 @@ use Rattle.pt_history.proofs.LastMember.{on_last-push}
 use Rattle.pt_semantics.specs.Closing.{Sends, on_link, unsent}
 use Rattle.pt_semantics.specs.Kept.{kept_with, settled}
 use Rattle.pt_semantics.specs.Platform.{State}
-use Rattle.pt_semantics.specs.Turn.{IsTurn, Turn}
+use Rattle.pt_semantics.specs.Turn.{Turn}
 use Rattle.pt_history.specs.Turns.{sending}
-use Rattle.pt_post.specs.Posted.{AreDone}
+use Rattle.pt_turn.specs.Posts.Posted.{AreDone}
 use Rattle.pt_turn.specs.Gone.{last_sent}
 use Rattle.pt_turn.specs.Platforms.{PlatformView, level_at, state_at}
 use Rattle.pt_turn.specs.Rested.{HasRested}
@@ -25,27 +25,8 @@ use Rattle.pt_turn.proofs.Sending.{last_sent_pushed, taken_still, turn_more}
 use Rattle.pt_visits.specs.Pipes.{HavePushed, arriving, emptied}
 use Rattle.pt_visits.specs.Pushing.{ArePushed}
 use Rattle.pt_visits.specs.Visited.{IsVisited}
+use Rattle.pt_laws.proofs.SameTurns.{turn_to}
 use Rattle.pt_visits.proofs.Sent.{sent_none}
-
--- the same turn, to a state that is the same
-abbrev pub turn_to : (g : Graph) (level : ℕ → ℕ) (i : ℕ) (s new end : State) (turn : Turn) (late : Bool) → new ≡ end → IsTurn g level i s turn late new → IsTurn g level i s turn late end
-turn_to g level i s new end turn late e is = record {
-  rises = is.rises;
-  span = is.span;
-  posted = is.posted;
-  posts = is.posts;
-  rows = is.rows;
-  got = is.got;
-  takes = is.takes;
-  ready = is.ready;
-  claims = is.claims;
-  idle_if_late = is.idle_if_late;
-  greedy = is.greedy;
-  at_most = is.at_most;
-  done = is.done;
-  closes = is.closes;
-  sends = subst (λ (z : State). Sends is.done turn.sent z) e is.sends;
-}
 
 -- the outbox before sending is that of the platform after its turn
 outbox_is : (done mid : State) (sent : List OnLink) → sent ≡ [] → Sends done sent mid → (l : ℕ) → done.outbox l ≡ mid.outbox l

@@ -1,17 +1,10 @@
 -- The messages that go through the pipes in a visit.
-use Rattle.std.specs.Prelude.{◌≡◌, ◌==◌, ◌++◌, ◌-◌, if◌then◌else◌, [], ◌∷◌, suc, ℕ, Bool, List, Option, None, Some, false, length, map, slice_get, take}
+use Rattle.std.specs.Prelude.{◌≡◌, ◌++◌, ◌-◌, if◌then◌else◌, [], ◌∷◌, suc, ℕ, List, None, Some, length, map, slice_get, take}
 use Rattle.pt_tags.specs.declared.message.Message.{Message}
 use Rattle.pt_types.specs.declared.graph.Graph.{Graph}
-use Rattle.pt_types.specs.declared.graph.Link.{Link}
 use Rattle.pt_types.specs.declared.firing.OnLink.{OnLink}
 use Rattle.pt_semantics.specs.Closing.{on_link}
-use Rattle.pt_types.specs.Lookups.{platform_of}
-use Rattle.pt_semantics.specs.Visits.{LinkByLink}
-
--- whether this link leads to platform i
-abbrev pub leads_to : Graph → ℕ → Option Link → Bool
-leads_to g i None = false
-leads_to g i (Some link) = platform_of g link.to == i
+use Rattle.pt_semantics.specs.Visits.{LinkByLink, leads_to}
 
 -- a message, on link l
 abbrev pub put_on : ℕ → Message → OnLink

@@ -8,14 +8,13 @@ use Rattle.pt_semantics.specs.Closing.{on_link}
 use Rattle.pt_semantics.specs.Kept.{kept_with}
 use Rattle.pt_semantics.specs.Safe.{NothingSafe}
 use Rattle.pt_semantics.specs.Turn.{IsLast, IsTurn, Turn}
-use Rattle.pt_state.specs.State.{busy_in}
+use Rattle.pt_turn.specs.Fields.State.{busy_in}
 use Rattle.pt_history.specs.Turns.{sending}
-use Rattle.pt_post.specs.Posted.{AreDone, ArePosted}
+use Rattle.pt_turn.specs.Posts.Posted.{AreDone, ArePosted}
 use Rattle.pt_turn.specs.Steps.{IsFront}
 use Rattle.pt_turn.specs.Platforms.{PlatformView, level_at, raised_to, state_at}
 use Rattle.pt_turn.specs.Turned.{FaultsIfLast, StaysThere, is_late}
 use Rattle.pt_visits.specs.Pipes.{HavePushed, arriving, emptied}
-use Rattle.pt_types.specs.Limits.{most_claims}
 
 -- after its last turn a platform sent these messages, and the rest of each outbox remains
 pub record HasSent (old new : PlatformView) (sent : List OnLink) : Type 0 where
@@ -32,7 +31,7 @@ pub record IsVisited (most r : ℕ) (dones results : List Done) (old new : Platf
   pub posted : ArePosted old.plan.graph (busy_in old.open_claims) dones turn.posted
   pub taken : IsFront (arriving old.plan.graph old.number 0 pipes) turn.taken (is_late new.fault)
   pub few : length turn.claimed ≤ most
-  pub all_or : is_late new.fault ≡ false → NothingSafe old.plan.graph is.ready.waits is.ready.busy turn.last ⊎ ((most ≤ length turn.claimed) ⊎ (most_claims ≤ is.ready.claims))
+  pub all_or : is_late new.fault ≡ false → NothingSafe old.plan.graph is.ready.waits is.ready.busy turn.last ⊎ ((most ≤ length turn.claimed) ⊎ (old.plan.graph.claims ≤ is.ready.claims))
   pub last : FaultsIfLast new.fault (IsLast old.plan.graph (state_at old) turn.last (is_late new.fault) is.ready)
   pub turns : new.turns ≡ kept_with old.turns turn
   pub sent : HavePushed is.done.outbox (emptied old.plan.graph old.number 0 pipes) piped turn.sent

@@ -5,7 +5,7 @@ ghost use Rattle.pt_types.specs.declared.firing.Done.{Done as Finished};
 ghost use Rattle.pt_types.specs.Lawful.{IsLawful};
 ghost use Rattle.pt_types.specs.Lookups.{kind_of};
 ghost use Rattle.pt_actors.specs.Fired.{IsFiredOnto};
-ghost use Rattle.pt_post.specs.Posted.{AreDone, IsDone};
+ghost use Rattle.pt_turn.specs.Posts.Posted.{AreDone, IsDone};
 
 use pt_actors::{Done, Task, fire, fire_onto};
 use pt_blocks::Blocks;

@@ -2,7 +2,7 @@
 
 ghost use Rattle.std.specs.Prelude.{◌≡◌, ◌≤◌, [], None, IfOk, OnOk, false, length, true};
 ghost use Rattle.std.specs.List.{list_all};
-ghost use Rattle.pt_post.specs.Posted.{AreDone};
+ghost use Rattle.pt_turn.specs.Posts.Posted.{AreDone};
 ghost use Rattle.pt_semantics.specs.Turn.{is_empty};
 ghost use Rattle.pt_turn.specs.Platforms.{level_at, state_at};
 ghost use Rattle.pt_turn.specs.Rested.{HasRested};
@@ -17,7 +17,7 @@ use crate::taking::take_all;
 use pt_actors::Done;
 use pt_blocks::Blocks;
 use pt_links::Pipe;
-use pt_tags::Memory;
+use pt_tags::{Memory, Reading};
 use pt_turn::{Platform, Room};
 use pt_types::OnLink;
 
@@ -27,7 +27,7 @@ fn rests(
     platform: &mut Platform,
     results: &[Done],
     taken: &[OnLink],
-    reading: u64,
+    reading: Reading,
 ) -> Result<bool, Memory>
     requires no_fault { platform.old.fault ≡ None }
     ensures rested { IfOk result (λ rested. rested ≡ true → (results.now ≡ []) × (taken.now ≡ []) × HasRested platform.old platform.new reading) }
@@ -56,7 +56,7 @@ pub fn visit(
     results: &mut Vec<Done>,
     desk: &mut Desk,
     blocks: &Blocks,
-    reading: u64,
+    reading: Reading,
     most: usize,
 ) -> Result<(), Memory>
     requires most { (1 ≤ most) × (most ≤ 64) }
@@ -89,7 +89,7 @@ pub fn visit_knowing(
     results: &mut Vec<Done>,
     desk: &mut Desk,
     blocks: &Blocks,
-    reading: u64,
+    reading: Reading,
     most: usize,
     under_way: &mut bool,
 ) -> Result<(), Memory>

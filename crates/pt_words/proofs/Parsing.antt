@@ -93,10 +93,10 @@ short_refused ws h = (short_said ws h).0
 
 -- what an answer needs of the words, where clap's parse gives matches and where it fails
 pub at_ok : (a : App) (ws : List Text) (rows : List Row) (t : Said) → a ≡ words_app → has_short ws ≡ false → fault_of a ws ≡ [] → rows ≡ matches_of a ws → t ≡ said_in rows → said among ws ≡ Some t
-at_ok a ws rows t is h none got told =
+at_ok a ws rows t is h none got viewed =
     let p = parses ws h in
     let none' : fault_of words_app ws ≡ [] = ap (λ b. fault_of b ws) (sym is) ∙ none in
-    let rows' : t ≡ said_in (matches_of words_app ws) = told ∙ ap said_in (got ∙ ap (λ b. matches_of b ws) is) in
+    let rows' : t ≡ said_in (matches_of words_app ws) = viewed ∙ ap said_in (got ∙ ap (λ b. matches_of b ws) is) in
     elim (said among ws) as (λ o. said among ws ≡ o → o ≡ Some t) [
       | None ↦ λ e. absurd (p.none e none')
       | Some s ↦ λ e. ap Some (sym (rows' ∙ (p.some s e).1))

@@ -14,8 +14,8 @@ abbrev pub texts_in : Option (Bor (List (Bor (List ℕ)))) → List (List ℕ)
 texts_in words = unwrap_or (option_map (λ words. map (λ word. word.now) words.now) words) []
 
 -- the values that clap read, as bytes
-abbrev pub told : Values → Said
-told values = record { graphs = texts_in values.graphs; workers = texts_in values.workers; clocks = texts_in values.clocks; logs = texts_in values.logs }
+abbrev pub viewed : Values → Said
+viewed values = record { graphs = texts_in values.graphs; workers = texts_in values.workers; clocks = texts_in values.clocks; logs = texts_in values.logs }
 
 -- the values that clap's matches have for an argument
 abbrev pub values_of : ArgMatches → List ℕ → List (List ℕ)

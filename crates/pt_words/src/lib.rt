@@ -3,7 +3,7 @@
 //! The first word is the command, and clap reads the others. Words that clap would read as a bundle of short options are
 //! refused first. The grammar is `specs/Grammar.antt`, over the values that the words give (`specs/Said.antt`).
 //!
-//! Read first: `Order`, then `order_of`.
+//! Read first: `Order`, then `order`.
 #![tactic(auto)]
 
 mod orders;
@@ -13,4 +13,4 @@ mod values;
 mod words;
 
 pub use orders::{ClockChoice, Command, Order};
-pub use words::order_of;
+pub use words::order;

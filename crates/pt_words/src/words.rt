@@ -2,7 +2,7 @@
 
 ghost use Rattle.std.specs.Prelude.{◌≡◌, ◌==◌, IfOk, codes, length, map, option_map, string_bytes};
 ghost use Rattle.pt_words.specs.Grammar.{audit_of, clock_in, is_bare, log_in, make_of, only_word, order_by, order_of, order_over, order_with, pair_in, replay_of, run_of, verb_of, workers_in};
-ghost use Rattle.pt_words.specs.Views.{in_words, texts_in, told, values_of};
+ghost use Rattle.pt_words.specs.Views.{in_words, texts_in, viewed, values_of};
 
 use crate::orders::{ClockChoice, Command, Order};
 use crate::reading::words_command;
@@ -40,7 +40,10 @@ struct Values<'m, 'a> {
 /// order, each at most once; `audit` and `replay` have two positional words, the graph file and then the log or the recording. A
 /// value is the next word, or follows `=` in the same word; `--log` takes none. A word `--` ends the options. Any other word that
 /// begins with `-` and is longer is refused, also as a value.
-pub fn order_of<'a>(alloc: Global, words: &'a [String]) -> Result<Option<Order<'a>>, AllocError>
+///
+/// `run g.json --workers 2 --log` is `Run` of `g.json` with 2 workers, the paced clock and the log; `run g.json --workers 0` is
+/// none, since there are 1 to 64 workers.
+pub fn order<'a>(alloc: Global, words: &'a [String]) -> Result<Option<Order<'a>>, AllocError>
     ensures { IfOk result (λ order. option_map in_words order ≡ order_of words.entry.now) }
 {
     let [first, rest @ ..] = words else {
@@ -107,7 +110,7 @@ fn values_in<'m, 'a>(matches: &'m ArgMatches<'a>) -> Values<'m, 'a>
 
 /// The order that a command asks for with these values.
 fn order_by<'m, 'a>(verb: Verb, values: Values<'m, 'a>) -> Option<Order<'a>>
-    ensures { option_map in_words result ≡ order_by verb (told values.entry) }
+    ensures { option_map in_words result ≡ order_by verb (viewed values.entry) }
 {
     match verb {
         Verb::Audit => audit_of(values),
@@ -118,7 +121,7 @@ fn order_by<'m, 'a>(verb: Verb, values: Values<'m, 'a>) -> Option<Order<'a>>
 
 /// The order that a command with one positional word asks for with that word.
 fn order_over<'m, 'a>(verb: Verb, values: Values<'m, 'a>, graph: &'a str) -> Option<Order<'a>>
-    ensures { option_map in_words result ≡ order_over verb (told values.entry) graph.entry.now }
+    ensures { option_map in_words result ≡ order_over verb (viewed values.entry) graph.entry.now }
 {
     match verb {
         Verb::Run => run_of(values, graph),
@@ -142,7 +145,7 @@ fn order_over<'m, 'a>(verb: Verb, values: Values<'m, 'a>, graph: &'a str) -> Opt
 
 /// A run of a graph file.
 fn run_of<'m, 'a>(values: Values<'m, 'a>, graph: &'a str) -> Option<Order<'a>>
-    ensures { option_map in_words result ≡ run_of (told values.entry) graph.entry.now }
+    ensures { option_map in_words result ≡ run_of (viewed values.entry) graph.entry.now }
 {
     let workers = workers_in(values.workers)?;
     let clock = clock_in(values.clocks)?;
@@ -157,7 +160,7 @@ fn run_of<'m, 'a>(values: Values<'m, 'a>, graph: &'a str) -> Option<Order<'a>>
 
 /// A run of an input made from a number.
 fn make_of<'m, 'a>(values: Values<'m, 'a>, word: &'a str) -> Option<Order<'a>>
-    ensures { option_map in_words result ≡ make_of (told values.entry) word.entry.now }
+    ensures { option_map in_words result ≡ make_of (viewed values.entry) word.entry.now }
 {
     if !is_absent(values.clocks) || !is_absent(values.logs) {
         return None;
@@ -169,7 +172,7 @@ fn make_of<'m, 'a>(values: Values<'m, 'a>, word: &'a str) -> Option<Order<'a>>
 
 /// An audit of a log, with the graph file and the log.
 fn audit_of<'m, 'a>(values: Values<'m, 'a>) -> Option<Order<'a>>
-    ensures { option_map in_words result ≡ audit_of (told values.entry) }
+    ensures { option_map in_words result ≡ audit_of (viewed values.entry) }
 {
     if !is_bare(values) {
         return None;
@@ -180,7 +183,7 @@ fn audit_of<'m, 'a>(values: Values<'m, 'a>) -> Option<Order<'a>>
 
 /// A replay with a recording, with the graph file and the recording.
 fn replay_of<'m, 'a>(values: Values<'m, 'a>) -> Option<Order<'a>>
-    ensures { option_map in_words result ≡ replay_of (told values.entry) }
+    ensures { option_map in_words result ≡ replay_of (viewed values.entry) }
 {
     if !is_absent(values.clocks) {
         return None;
@@ -198,7 +201,7 @@ fn replay_of<'m, 'a>(values: Values<'m, 'a>) -> Option<Order<'a>>
 
 /// Whether no option is given.
 fn is_bare<'m, 'a>(values: Values<'m, 'a>) -> bool
-    ensures { result ≡ is_bare (told values.entry) }
+    ensures { result ≡ is_bare (viewed values.entry) }
 {
     is_absent(values.workers) && is_absent(values.clocks) && is_absent(values.logs)
 }

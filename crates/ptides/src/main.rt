@@ -16,7 +16,7 @@ use std::process::ExitCode;
 fn mean(a: i64, b: i64) -> i64
     ensures { result ≡ law_value (Weighted (pos 1) (pos 2)) a b }
 {
-    pt_actors::law_value(Law::Weighted { num: 1, den: 2 }, a, b)
+    pt_actors::law_value(&Law::Weighted { num: 1, den: 2 }, a, b)
 }
 
 fn main(rt: HostRuntime) -> ExitCode {

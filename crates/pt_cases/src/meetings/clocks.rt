@@ -20,7 +20,7 @@ pub struct MeetingClock {
 impl Clock for MeetingClock {
     ghost use Rattle.std.specs.Prelude.{None};
 
-    ghost told = { λ c. None };
+    ghost readings = { λ c. None };
 
     ghost ahead = { λ c. None };
 
@@ -37,6 +37,8 @@ impl Clock for MeetingClock {
     fn rises_by_itself(&self) -> bool {
         true
     }
+
+    fn wait(&mut self, _until: u64) {}
 }
 
 /// The clocks of a command that meet here.

@@ -1,7 +1,7 @@
 //! Where threads wait for each other, and where firings are counted.
 
-use pt_free::Gate;
 use pt_types::Task;
+use pt_workers::work::Gate;
 use std::alloc::{AllocError, Global};
 use std::sync::atomic::{AtomicU64, Ordering};
 use std::thread::yield_now;

@@ -7,6 +7,7 @@ use crate::platforms::report::push_claim;
 use crate::platforms::search::Plain;
 use pt_actors::Task;
 use pt_blocks::Blocks;
+use pt_tags::Reading;
 use pt_types::{Graph, RowAt};
 use std::alloc::{AllocError, Global};
 
@@ -26,7 +27,7 @@ struct Tally {
 #[derive(Clone, Copy)]
 struct Step {
     number: u32,
-    reading: u64,
+    reading: Reading,
 }
 
 /// Compares through the turns of the graph of a seed, and appends how that went.
@@ -149,7 +150,7 @@ impl Tally {
         alloc: Global,
         graph: &Graph,
         plain: &mut Plain,
-        reading: u64,
+        reading: Reading,
         played: &Played,
     ) -> Result<(), AllocError> {
         let wanted = search(alloc, graph, plain, reading, played)?;
@@ -192,7 +193,7 @@ fn search(
     alloc: Global,
     graph: &Graph,
     plain: &mut Plain,
-    reading: u64,
+    reading: Reading,
     played: &Played,
 ) -> Result<Vec<Task>, AllocError> {
     for done in played.results.as_slice() {

@@ -7,6 +7,7 @@ use crate::platforms::turns::{Made, make_turn, send_all};
 use pt_actors::{Done, Task};
 use pt_blocks::Blocks;
 use pt_offsets::Plan;
+use pt_tags::Reading;
 use pt_turn::Platform;
 use pt_types::{Graph, OnLink};
 use std::alloc::{AllocError, Global};
@@ -109,7 +110,7 @@ impl Game {
         &mut self,
         alloc: Global,
         number: u32,
-        reading: u64,
+        reading: Reading,
         held: &[u32],
         kept: &[u32],
         again: &[Task],
@@ -143,7 +144,7 @@ impl Game {
         &mut self,
         alloc: Global,
         number: u32,
-        reading: u64,
+        reading: Reading,
         posted: &[Task],
         messages: &[OnLink],
         blocks: &Blocks,

@@ -6,7 +6,7 @@ use crate::platforms::paths::{
     ways_from, weight,
 };
 use pt_actors::{Done, Task};
-use pt_tags::{Message, Tag};
+use pt_tags::{Message, Reading, Tag};
 use pt_types::{Event, Graph, Kind, OnLink, Ports, RowAt, Unit};
 use std::alloc::{AllocError, Global};
 
@@ -45,7 +45,7 @@ pub struct Plain {
     open: Vec<Task>,
     rows: Vec<RowAt>,
     states: Vec<i64>,
-    reading: Option<u64>,
+    reading: Option<Reading>,
     claims: u64,
     /// Whether a message was late: that turn was the platform's last, and nothing is claimed after it.
     late: bool,
@@ -162,7 +162,7 @@ impl Plain {
     }
 
     /// Lets the rows enter that are seen at a reading.
-    fn enter(&mut self, alloc: Global, graph: &Graph, reading: u64) -> Result<(), AllocError> {
+    fn enter(&mut self, alloc: Global, graph: &Graph, reading: Reading) -> Result<(), AllocError> {
         let rows = Vec::from_slice(alloc, self.rows.as_slice())?;
         for at in rows.as_slice() {
             let (sensor, row) = (at.sensor, at.row);
@@ -250,7 +250,7 @@ impl Plain {
     }
 
     /// Whether no row and no message can come to a unit any more at a time or before it.
-    fn is_past(&self, unit: usize, time: u64, reading: u64) -> bool {
+    fn is_past(&self, unit: usize, time: u64, reading: Reading) -> bool {
         for from in 0..self.units.len() {
             let bound = self.bounds.as_slice().get(from).copied().unwrap_or(None);
             if let (Some(bound), Some(way)) = (bound, self.way(from, unit)) {
@@ -263,7 +263,7 @@ impl Plain {
     }
 
     /// Whether a unit is safe, whose least tag that waits is this one.
-    fn is_safe(&self, graph: &Graph, unit: usize, tag: Way, reading: u64) -> bool {
+    fn is_safe(&self, graph: &Graph, unit: usize, tag: Way, reading: Reading) -> bool {
         for task in self.open.as_slice() {
             let Some(from) = self.place_of_task(graph, task) else {
                 continue;
@@ -284,7 +284,7 @@ impl Plain {
     }
 
     /// The safe unit with the least tag, actor and group, by its place, and its tag.
-    fn next(&self, graph: &Graph, reading: u64) -> Option<(usize, Way)> {
+    fn next(&self, graph: &Graph, reading: Reading) -> Option<(usize, Way)> {
         let mut next = None;
         for unit in 0..self.units.len() {
             let Some(tag) = self.least(graph, unit) else {
@@ -367,7 +367,7 @@ impl Plain {
         &mut self,
         alloc: Global,
         graph: &Graph,
-        reading: u64,
+        reading: Reading,
         messages: &[OnLink],
     ) -> Result<Vec<Task>, AllocError> {
         let reading = reading.max(self.reading.unwrap_or(0));
@@ -386,7 +386,7 @@ impl Plain {
         &mut self,
         alloc: Global,
         graph: &Graph,
-        reading: u64,
+        reading: Reading,
     ) -> Result<Vec<Task>, AllocError> {
         let mut claimed = Vec::new(alloc);
         for _ in 0..64 {

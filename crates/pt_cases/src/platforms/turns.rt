@@ -2,13 +2,14 @@
 
 ghost use Rattle.std.specs.Prelude.{◌≡◌, ◌<◌, IfOk, length};
 ghost use Rattle.pt_types.specs.Lawful.{IsLawful};
-ghost use Rattle.pt_post.specs.Posted.{AreDone};
+ghost use Rattle.pt_turn.specs.Posts.Posted.{AreDone};
 ghost use Rattle.pt_semantics.specs.Closing.{on_link};
 ghost use Rattle.pt_turn.specs.Gone.{last_sent};
 
 use crate::platforms::arrivals::{may_come, on_link};
 use pt_actors::{Done, Task, Tasks};
 use pt_blocks::Blocks;
+use pt_tags::Reading;
 use pt_turn::{Platform, Room};
 use pt_types::{Graph, OnLink};
 use pt_visits::fire_one;
@@ -45,7 +46,7 @@ pub struct Made {
 pub fn make_turn(
     alloc: Global,
     platform: &mut Platform,
-    reading: u64,
+    reading: Reading,
     tasks: &[Task],
     messages: &[OnLink],
     blocks: &Blocks,
@@ -61,7 +62,7 @@ pub fn make_turn(
 fn claimed_in(
     alloc: Global,
     platform: &mut Platform,
-    reading: u64,
+    reading: Reading,
     results: &[Done],
     messages: &[OnLink],
 ) -> Result<Option<Vec<Task>>, AllocError>

@@ -1,4 +1,4 @@
-use Rattle.pt_io.specs.Told.{tell}
+use Rattle.pt_io.specs.Clocks.{viewed}
 use Rattle.pt_run.specs.Texts.{left_of}
 use Rattle.pt_words.specs.Grammar.{order_of}
 use Rattle.pt_program.proofs.status.Goals as goal
@@ -7,7 +7,7 @@ pub returns-clause-ended : goal.returns-clause-ended
 returns-clause-ended g c =
     let order = order_of c.args.words.now in (
       c.ptides-outcome.result.fault,
-      left_of c.ptides-outcome.result order (tell g.C.Clock.told g.C.Clock.ahead c.args.clocks.items) (tell g.C.Clock.told g.C.Clock.ahead c.ptides-outcome.result.clocks.items),
+      left_of c.ptides-outcome.result order (viewed g.C.Clock.readings g.C.Clock.ahead c.args.clocks.items) (viewed g.C.Clock.readings g.C.Clock.ahead c.ptides-outcome.result.clocks.items),
       c.ptides-outcome.ensures.status,
       c.ptides-outcome.ensures.due,
     )

@@ -1,10 +1,10 @@
 use Rattle.std.proofs.Common.{◌≡◌, ◌≤◌, List, None, ap, length, subst, sym, ◌∙◌}
 use Rattle.std.specs.Prelude.{◌↔◌}
 use Rattle.std.specs.List.{All}
-use Rattle.pt_air.specs.declared.air.Air.{Air}
+use Rattle.pt_types.specs.declared.air.Air.{Air}
 use Rattle.pt_air.specs.declared.row.AirRow.{AirRow}
 use Rattle.pt_air.specs.AirOf.{air_with}
-use Rattle.pt_air.specs.Bounds.{KeepsBounds}
+use Rattle.pt_semantics.specs.RecordedTimes.{KeepsBounds}
 use Rattle.pt_air.proofs.Given.{rows_of-rows}
 use Rattle.pt_air.proofs.Keeping.{breach-None}
 use Rattle.pt_air.proofs.Sizes.{lags_len, small_lags, small_transits, transits_len}

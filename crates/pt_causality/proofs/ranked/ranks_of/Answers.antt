@@ -3,7 +3,7 @@ use Rattle.std.proofs.lemmas.Result.{err_from_is_err_and}
 use Rattle.pt_types.specs.declared.graph.Edge.{Edge}
 use Rattle.pt_types.specs.declared.graph.Graph.{Graph}
 use Rattle.pt_semantics.specs.Edges.{edges}
-use Rattle.pt_causality.specs.declared.places.Place.{Place}
+use Rattle.pt_causality.specs.declared.places.SearchState.{SearchState}
 use Rattle.pt_causality.specs.Incoming.{AreIncoming}
 use Rattle.pt_causality.proofs.Found.{are_joined, cycle_found, few_lists, levels_are, ranks_are}
 use Rattle.pt_causality.proofs.ranked.ranks_of.Goals as goal
@@ -27,10 +27,10 @@ pub returns-clause-ranks : goal.returns-clause-ranks
 returns-clause-ranks c =
     ranks_are c.args.graph.now c.as_slice.result.now c.in_ok-places.places.items c.in_ok-ranks_at.field-0.ranks c.requires.lawful
     (lists c.args.graph.now c.as_slice.result.now c.in_ok-incoming.incoming.items c.as_slice.ensures.value c.in_ok-incoming.ensures) c.in_ok-places.ensures.done
-    (c.in_ok-ranks_at.ensures.ranks ∙ ap (λ (ps : List Place). map (λ (p : Place). p.rank) ps) c.as_slice-2.ensures.value)
+    (c.in_ok-ranks_at.ensures.ranks ∙ ap (λ (ps : List SearchState). map (λ (p : SearchState). p.rank) ps) c.as_slice-2.ensures.value)
 
 pub returns-clause-levels : goal.returns-clause-levels
 returns-clause-levels c =
     levels_are c.args.graph.now c.as_slice.result.now c.in_ok-places.places.items c.in_ok-ranks_at.field-0.levels c.requires.lawful
     (lists c.args.graph.now c.as_slice.result.now c.in_ok-incoming.incoming.items c.as_slice.ensures.value c.in_ok-incoming.ensures) c.in_ok-places.ensures.done
-    (c.in_ok-ranks_at.ensures.levels ∙ ap (λ (ps : List Place). map (λ (p : Place). p.level) ps) c.as_slice-2.ensures.value)
+    (c.in_ok-ranks_at.ensures.levels ∙ ap (λ (ps : List SearchState). map (λ (p : SearchState). p.level) ps) c.as_slice-2.ensures.value)

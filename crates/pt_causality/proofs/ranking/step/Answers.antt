@@ -1,7 +1,7 @@
 use Rattle.std.proofs.Common.{◌≡◌, ◌<◌, ◌≤◌, ◌+◌, List, length, reverse, arith, subst, sym}
 use Rattle.pt_types.specs.declared.graph.Edge.{Edge}
-use Rattle.pt_causality.specs.declared.places.Place.{Place}
-use Rattle.pt_causality.specs.declared.places.Mark.TheVariants.{New, Open, Done}
+use Rattle.pt_causality.specs.declared.places.SearchState.{SearchState}
+use Rattle.pt_causality.specs.declared.places.SearchMark.TheVariants.{New, Open, Done}
 use Rattle.pt_causality.specs.Places.{place_at}
 use Rattle.pt_causality.specs.Rings.{IsClosedBy}
 use Rattle.pt_causality.specs.Ranking.{IsWalk}
@@ -9,7 +9,7 @@ use Rattle.pt_causality.proofs.Steps.{closed, closed_step, closes, level_fits, l
 use Rattle.pt_causality.proofs.ranking.step.Goals as goal
 
 pub next_edge-requires-clause-actor : goal.next_edge-requires-clause-actor
-next_edge-requires-clause-actor c = subst (λ (ps : List Place). c.args.top < length ps) (sym c.as_slice.ensures.value) (top_within _ _ _ _ c.requires.walk)
+next_edge-requires-clause-actor c = subst (λ (ps : List SearchState). c.args.top < length ps) (sym c.as_slice.ensures.value) (top_within _ _ _ _ c.requires.walk)
 
 pub index-requires : goal.index-requires
 index-requires c =
@@ -38,7 +38,7 @@ look-requires-clause-rank c =
 
 pub returns-in_default-clause-walk : goal.returns-in_default-clause-walk
 returns-in_default-clause-walk c =
-    let none = subst (λ (ps : List Place). (place_at ps c.args.top).left ≡ 0) c.as_slice.ensures.value c.in_default.ensures in
+    let none = subst (λ (ps : List SearchState). (place_at ps c.args.top).left ≡ 0) c.as_slice.ensures.value c.in_default.ensures in
     closed _ _ _ _ _ _ _ c.requires.walk none c.set_mark.ensures c.go_back.ensures
 
 pub returns-in_default-clause-shrinks : goal.returns-in_default-clause-shrinks

@@ -1,5 +1,5 @@
 use Rattle.std.proofs.Common.{◌≡◌, ◌<◌, ℕ}
-use Rattle.pt_causality.specs.declared.places.Mark.TheVariants.{Done}
+use Rattle.pt_causality.specs.declared.places.SearchMark.TheVariants.{Done}
 use Rattle.pt_causality.specs.Places.{place_at}
 use Rattle.pt_causality.specs.Ranking.{Rests}
 use Rattle.pt_causality.proofs.ranking.visit_all.Given as goal

@@ -6,6 +6,6 @@ use Rattle.pt_graph.proofs.index.repeated.Given as goal
 
 abbrev pub invariant-loop-i : goal.invariant-loop-i
 invariant-loop-i g l = record {
-  seen : (n : List ℕ) → at_name l.numbers n ≡ first_named g.T.Named.name_of (take l.i l.items) n;
-  left : repeated_from g.T.Named.name_of (take l.i l.items) l.i (drop l.i l.items) ≡ repeated_from g.T.Named.name_of [] 0 l.items;
+  seen : (n : List ℕ) → at_name l.numbers n ≡ first_named g.T.HasName.name_of (take l.i l.items) n;
+  left : repeated_from g.T.HasName.name_of (take l.i l.items) l.i (drop l.i l.items) ≡ repeated_from g.T.HasName.name_of [] 0 l.items;
 }

@@ -11,7 +11,7 @@ invariant-members g l =
     (n : ℕ) × (old : Members) × (length l.reader ≤ n)
     × (converted (λ ms. of_members ms no_members) (members (value l.depth) (length l.initial.reader) l.initial.reader) ≡ converted (λ ms. of_members ms old) (members (value l.depth) n l.reader))
     × (members_view l.found.entries ≡ hollow_members old)
-    × (l.lists ≡ g.L.Lists.lists_of l.version old)
+    × (l.lists ≡ g.L.ObjectArrays.lists_of l.version old)
     × (length l.reader ≤ length l.initial.reader)
 
 abbrev pub decreases-members : goal.decreases-members

@@ -41,7 +41,7 @@ returns-in_ok-left-in_default g c =
     let first : c.args.reader.now ≡ token_of token ∷ c.next.new.self = grind arith in
     let plain = opens_no_object token c.in_default.not-BeginObject in
     let none = no_object c.args.depth (token_of token) c.next.new.self c.value_from.new.reader d plain left.ensures.ok in record {
-      ok = (d, ap (λ ts. converted of_json (value c.args.depth ts)) first ∙ left.ensures.ok, sym none.0, c.none.ensures c.args.version ∙ ap (g.L.Lists.lists_of c.args.version) (sym none.1));
+      ok = (d, ap (λ ts. converted of_json (value c.args.depth ts)) first ∙ left.ensures.ok, sym none.0, c.none.ensures c.args.version ∙ ap (g.L.ObjectArrays.lists_of c.args.version) (sym none.1));
       shorter = let longer : length c.args.reader.now ≡ suc (length c.next.new.self) = ap length first in omega (arith, longer, left.ensures.shorter);
       err = λ never. absurd (cc);
     }

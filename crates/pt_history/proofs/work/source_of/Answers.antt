@@ -8,6 +8,6 @@ returns-in-Some-clause-stored c = record {
   more = [];
   grows = sym (append-nil c.args.others.now.items);
   few = omega arith;
-  within = (slice_get_within c.args.claims.now.tasks c.in-Some.number c.args.task.now c.in-Some.ensures, tt);
-  is = get_or_from_slice_get c.args.claims.now.tasks c.in-Some.number c.args.task.now no_task c.in-Some.ensures;
+  within = (slice_get_within c.args.claims.now.tasks c.in-Some.number c.args.task.now c.in-Some.ensures.is, tt);
+  is = get_or_from_slice_get c.args.claims.now.tasks c.in-Some.number c.args.task.now no_task c.in-Some.ensures.is;
 }

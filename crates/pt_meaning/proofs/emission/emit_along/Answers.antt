@@ -2,7 +2,7 @@ use Rattle.std.proofs.Common.{◌≡◌, ◌≤◌, ◌+◌, ◌∙◌, ap, sym,
 use Rattle.std.proofs.lemmas.Result.{IfOk-weaker}
 use Rattle.pt_tags.specs.declared.tag.Tag.{Tag}
 use Rattle.pt_semantics.specs.Meaning.{added}
-use Rattle.pt_meaning.specs.declared.place.Place.{Place}
+use Rattle.pt_meaning.specs.declared.place.EventPlace.{EventPlace}
 use Rattle.pt_meaning.specs.Waiting.{waits_in, rank_in, value_at}
 use Rattle.pt_meaning.specs.Held.{late_value}
 use Rattle.pt_meaning.proofs.Emitting.{goes_one}
@@ -11,7 +11,7 @@ use Rattle.pt_meaning.proofs.emission.emit_along.Goals as goal
 pub returns-clause-waits : goal.returns-clause-waits
 returns-clause-waits c = IfOk-weaker c.add.result _ _ (λ u h g until.
     let later : Tag = record { time = c.args.tag.time + c.args.edge.weight.time; step = c.args.tag.step + c.args.edge.weight.step } in
-    let place : Place = record { tag = later; rank = c.rank_at.result; actor = c.args.edge.to; port = c.args.edge.input } in
+    let place : EventPlace = record { tag = later; rank = c.rank_at.result; actor = c.args.edge.to; port = c.args.edge.input } in
     let was = h (rank_in c.args.ranks.now) c.rank_at.ensures in
     let stored : waits_in (rank_in c.args.ranks.now) (late_value c.add.new.self) ≡ added (waits_in (rank_in c.args.ranks.now) (late_value c.args.late.now)) (value_at place c.in-Some.value) = search (rules, was) in
     stored

@@ -1,7 +1,7 @@
 use Rattle.std.proofs.Common.{◌≡◌, ◌<◌, ℕ, ℤ, List, Option, None, true, length, get_or, arith, ap, sym, subst, ◌∙◌}
 use Rattle.pt_tags.specs.declared.tag.Delay.{Delay}
 use Rattle.pt_types.specs.declared.graph.Graph.{Graph}
-use Rattle.pt_types.specs.declared.graph.Unit.{Unit as Part}
+use Rattle.pt_types.specs.declared.graph.Unit.{Unit}
 use Rattle.pt_types.specs.Groups.{groups_of, held}
 use Rattle.pt_types.specs.Kinds.{kind_is_lawful}
 use Rattle.pt_types.specs.Lawful.{IsLawful}
@@ -18,7 +18,7 @@ use Rattle.pt_offsets.proofs.Times.{AreUnitOffsets, actor_offset, each_offset, s
 use Rattle.pt_offsets.proofs.timing.timing.Goals as goal
 
 -- as many offsets as the program counts are those of all units
-all_units : (g : Graph) (bounds : List (Option ℕ)) (least : Part → Part → Option Delay) (a n : ℕ) (offsets : List (Option ℤ)) → IsLawful g → n ≡ held (groups_of (kind_of g a)) → length offsets ≡ n → ((k : ℕ) → k < n → HasGreatest (length bounds) (offset_from bounds least (unit_at a k)) (get_or offsets k None)) → AreUnitOffsets g bounds least a offsets
+all_units : (g : Graph) (bounds : List (Option ℕ)) (least : Unit → Unit → Option Delay) (a n : ℕ) (offsets : List (Option ℤ)) → IsLawful g → n ≡ held (groups_of (kind_of g a)) → length offsets ≡ n → ((k : ℕ) → k < n → HasGreatest (length bounds) (offset_from bounds least (unit_at a k)) (get_or offsets k None)) → AreUnitOffsets g bounds least a offsets
 all_units g bounds least a n offsets lawful count len each =
     let whole : n ≡ groups (kind_of g a) = count ∙ few_groups (kind_of g a) (any_kind g a lawful) in
     record { len = len ∙ whole; each = λ k less. each k (subst (λ m. k < m) (sym whole) less) }

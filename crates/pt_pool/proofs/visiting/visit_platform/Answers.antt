@@ -26,7 +26,7 @@ put_all-requires-clause-orderly g c =
     let turned = c.turn.ensures.turned (ap (λ (p : PlatformView). p.fault) room ∙ c.requires.no_fault) in
     let made : MakesTurn c.args.most v c.turn.new.self c.args.reading c.args.done.now c.as_slice.result.now c.reserve-2.new.self.tasks c.turn.new.tasks.tasks =
     any_room v c.room.new.self c.turn.new.self c.args.reading c.args.most c.args.done.now c.as_slice.result.now c.reserve-2.new.self.tasks c.turn.new.tasks.tasks room turned in
-    may_go_out c.outgoing_lists_stay_orderly.ensures v c.turn.new.self c.args.outlets.now c.args.inlets.now c.args.reading c.args.most c.args.done.now c.as_slice.result.now c.requires.fits c.fault.ensures.runs (c.fault.ensures.on_time (c.fault.ensures.fault ∙ c.requires.no_fault)) made.0
+    may_go_out c.outgoing_lists_stay_orderly.ensures v c.turn.new.self c.args.outlets.now c.args.inlets.now c.args.reading c.args.most c.args.done.now c.as_slice.result.now c.requires.fits c.show_running.ensures.runs (c.show_running.ensures.on_time c.requires.no_fault) made.0
 
 pub returns-clause-visited : goal.returns-clause-visited
 returns-clause-visited g c =

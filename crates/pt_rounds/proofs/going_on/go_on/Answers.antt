@@ -1,31 +1,28 @@
-use Rattle.std.proofs.Common.{◌∙◌, get_or, length, arith, sym, subst}
+use Rattle.std.proofs.Common.{◌∙◌, length, arith, sym, subst}
 use Rattle.std.proofs.lemmas.Bool.{false≢true}
-use Rattle.std.proofs.lemmas.Option.{slice_get-get_or, slice_get_within}
-use Rattle.pt_schedule.proofs.Ending.{rounds_end}
+use Rattle.pt_paced_laws.proofs.Ending.{rounds_end}
 use Rattle.pt_semantics.proofs.LawfulEdges.{wired}
 use Rattle.pt_causality.specs.Ranked.{level_of}
 use Rattle.pt_offsets.specs.Timings.{offset_of}
 use Rattle.pt_rounds.specs.Asked.{IsLeastOf}
-use Rattle.pt_together.specs.Asked.{result_lists}
-use Rattle.pt_schedule.proofs.FewRounds.{rounds_are_few}
+use Rattle.pt_engine.specs.Asked.{result_lists}
+use Rattle.pt_paced_laws.proofs.FewRounds.{rounds_are_few}
 use Rattle.pt_rounds.proofs.Runs.{ended_finished, ended_long, open_after_quiet, stands_next}
 use Rattle.pt_rounds.proofs.going_on.go_on.Goals as goal
 use Rattle.pt_rounds.proofs.going_on.go_on.Goals.{then-quiet, else-quiet}
 
 pub returns-in-Some : goal.returns-in-Some
 returns-in-Some g c = record {
-  run = λ plan rows start.
+  outcome = λ plan rows start.
       let s = c.loop-round.invariant.run plan rows start in
       ended_long plan rows c.loop-round._round c.loop-round.reading c.loop-round.platforms c.loop-round.pipes (result_lists c.loop-round.results) s c.pass.new.platforms c.pass.new.pipes (result_lists c.pass.new.results) c.in_ok-quiet.quiet
       (c.in_ok-quiet.ensures.passed plan rows c.loop-round._round s)
-      c.in-Some.fault c.number.result (get_or c.pass.new.platforms c.in-Some.fault c.index-platforms-fault.result) c.in-Some.ensures
-      (slice_get-get_or c.pass.new.platforms c.in-Some.fault c.index-platforms-fault.result (slice_get_within c.pass.new.platforms c.in-Some.fault c.in-Some.ensures.view c.in-Some.ensures.at))
-      (sym c.number.ensures);
+      c.in-Some.fault c.in-Some.ensures;
 }
 
 pub returns-then-are_finished : goal.returns-then-are_finished
 returns-then-are_finished g c = record {
-  run = λ plan rows start.
+  outcome = λ plan rows start.
       let s = c.loop-round.invariant.run plan rows start in
       ended_finished plan rows c.loop-round._round c.loop-round.reading c.loop-round.platforms c.loop-round.pipes (result_lists c.loop-round.results) s c.pass.new.platforms c.pass.new.pipes (result_lists c.pass.new.results) c.in_ok-quiet.quiet
       (c.in_ok-quiet.ensures.passed plan rows c.loop-round._round s)
@@ -64,6 +61,3 @@ unreachable-requires g c =
 
 pub pass-requires-clause-begun : goal.pass-requires-clause-begun
 pass-requires-clause-begun g c = let (plan, rows, start) = c.requires.begun in (plan, rows, c.loop-round._round, c.loop-round.invariant.run plan rows start)
-
-pub bounds-platforms-fault : goal.bounds-platforms-fault
-bounds-platforms-fault g c = slice_get_within c.pass.new.platforms c.in-Some.fault c.in-Some.ensures.view c.in-Some.ensures.at

@@ -5,14 +5,14 @@ use Rattle.std.proofs.lemmas.Option.{slice_get-get_or, slice_get_within}
 use Rattle.std.specs.Global.{Vec}
 use Rattle.pt_types.specs.declared.firing.Done.{Done}
 use Rattle.pt_semantics.specs.Linked.{IsFinished}
-use Rattle.pt_post.specs.Posted.{AreDone}
+use Rattle.pt_turn.specs.Posts.Posted.{AreDone}
 use Rattle.pt_semantics.proofs.Lookups.{same_some}
 use Rattle.pt_offsets.specs.Plans.{Parts}
 use Rattle.pt_turn.specs.Platforms.{PlatformView, state_at}
-use Rattle.pt_together.specs.Asked.{result_lists}
+use Rattle.pt_engine.specs.Asked.{result_lists}
 use Rattle.pt_rounds.specs.Passing.{HavePassed}
-use Rattle.pt_together.proofs.Changed.{set_here}
-use Rattle.pt_together.proofs.Listed.{list_at}
+use Rattle.pt_engine.proofs.Changed.{set_here}
+use Rattle.pt_engine.proofs.Listed.{list_at}
 use Rattle.pt_rounds.proofs.Showing.{may_come}
 use Rattle.pt_rounds.proofs.Passes.{fine_with, none_passed, not_faulty, one_by, one_visited, passed_onward}
 use Rattle.pt_rounds.proofs.passing.pass.Goals as goal

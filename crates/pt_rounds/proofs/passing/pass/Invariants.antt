@@ -3,7 +3,7 @@ use Rattle.std.specs.List.{list_all}
 use Rattle.pt_semantics.specs.Turn.{is_empty}
 use Rattle.pt_types.specs.declared.rows.Row.{Row}
 use Rattle.pt_offsets.specs.Plans.{Parts}
-use Rattle.pt_together.specs.Asked.{HaveNoFault, result_lists}
+use Rattle.pt_engine.specs.Asked.{HaveNoFault, result_lists}
 use Rattle.pt_rounds.specs.Passing.{HavePassed, IsBeforeRound}
 use Rattle.pt_rounds.proofs.passing.pass.Given as goal
 

@@ -1,6 +1,6 @@
 use Rattle.std.proofs.Common.{◌∙◌, sym}
 use Rattle.pt_semantics.specs.Kept.{settled}
-use Rattle.pt_together.proofs.Passing.{same_test}
+use Rattle.pt_engine.proofs.Passing.{same_test}
 use Rattle.pt_rounds.proofs.passing.visit_one.Goals as goal
 
 pub returns-then-closed : goal.returns-then-closed

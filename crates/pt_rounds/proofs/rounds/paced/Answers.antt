@@ -5,11 +5,11 @@ use Rattle.pt_types.specs.declared.rows.Row.{Row}
 use Rattle.pt_causality.specs.Ranked.{level_of}
 use Rattle.pt_offsets.specs.Plans.{Parts}
 use Rattle.pt_turn.specs.Platforms.{PlatformView}
-use Rattle.pt_together.specs.Asked.{result_lists}
+use Rattle.pt_engine.specs.Asked.{result_lists}
 use Rattle.pt_rounds.specs.Asked.{IsLeastOf, NoneIsOpen}
-use Rattle.pt_rounds.specs.HaveRun.{HaveRun}
+use Rattle.pt_rounds.specs.Outcome.{IsOutcome}
 use Rattle.pt_rounds.specs.Passing.{IsBeforeRound}
-use Rattle.pt_together.proofs.First.{AreOpened, opened, written}
+use Rattle.pt_engine.proofs.First.{AreOpened, opened, written}
 use Rattle.pt_rounds.proofs.Runs.{some_open, stands_first}
 use Rattle.pt_rounds.proofs.rounds.paced.Goals as goal
 
@@ -49,10 +49,10 @@ go_on-requires g c = record {
 
 pub returns : goal.returns
 returns g c = record {
-  run = λ plan rows ready.
-      subst (λ (vs : List PlatformView). HaveRun plan (level_of plan.ranks) rows vs c.in_ok-fault.fault)
+  outcome = λ plan rows ready.
+      subst (λ (vs : List PlatformView). IsOutcome plan (level_of plan.ranks) rows vs c.in_ok-fault.fault)
       (sym (written c.args.platforms.len c.go_on.new.platforms c.args.platforms.items (omega (arith, c.go_on.auto.platforms, c.as_mut_slice.ensures.len))))
-      (c.in_ok-fault.ensures.run plan rows
+      (c.in_ok-fault.ensures.outcome plan rows
       (starts plan rows c.next_reading-begins.result c.args.platforms.items c.as_slice-2.result.now c.as_mut_slice.result.now c.in_ok-pipes.pipes.items c.as_mut_slice-2.result.now (result_lists c.in_ok-results.results.items) (result_lists c.as_mut_slice-3.result.now)
       (opened plan rows c.args.platforms.items c.as_slice.result.now c.index.result.now c.deref.result.now c.graph.result.now c.as_slice-links.result.now c.in_ok-pipes.pipes.items (result_lists c.in_ok-results.results.items)
       c.requires.some (c.deref.ensures ∙ c.plan.ensures ∙ ap (λ (v : PlatformView). v.plan) c.index.ensures) c.graph.ensures.value c.graph.ensures.admitted c.as_slice-links.ensures c.as_slice.ensures.value

@@ -1,11 +1,12 @@
 use Rattle.std.proofs.Common.{rules, ◌∷◌, [], Ok, Err, Some, subst, sym}
+use Rattle.pt_io.specs.Calls.{Reading, reading}
 use Rattle.pt_run.specs.Asks.{AsksAlone}
 use Rattle.pt_run.proofs.Asks.{alone_asks}
 use Rattle.pt_graph.specs.GraphOf.{graph_of}
 use Rattle.pt_graph.proofs.Fetched.{graph_of-fetched}
 use Rattle.pt_io.specs.Causes.{Rose}
 use Rattle.pt_run.specs.Due.{AfterFile, RefusesAsDue}
-use Rattle.pt_sensors.specs.Asked.{Asks, Reading}
+use Rattle.pt_sensors.specs.Asked.{Asks}
 use Rattle.pt_sensors.proofs.Asking.{of_content}
 use Rattle.pt_run.proofs.Ending.{graph_fails, graph_unread}
 use Rattle.pt_run.proofs.admission.graph_at.Goals as goal
@@ -13,24 +14,24 @@ use Rattle.pt_run.proofs.admission.graph_at.Goals as goal
 pub returns-in-Ok-read_graph-clause-graph : goal.returns-in-Ok-read_graph-clause-graph
 returns-in-Ok-read_graph-clause-graph g c =
     let blocks = c.args.blocks.now.listed.items in
-    of_content (graph_of blocks) 1048577 (graph_of-fetched blocks) (g.S.Source.tells c.args.source.now c.args.name.now) c.in-Ok.bytes.items (Ok c.in-Ok-read_graph.graph) c.in-Ok.ensures.bytes
+    of_content (graph_of blocks) 1048577 (graph_of-fetched blocks) (g.S.Source.contents c.args.source.now c.args.name.now) c.in-Ok.bytes.items (Ok c.in-Ok-read_graph.graph) c.in-Ok.ensures.bytes
     (rw c.as_slice.ensures.value at c.in-Ok-read_graph.ensures.graph)
 
 pub returns-in-Err-Failed-clause-refused : goal.returns-in-Err-Failed-clause-refused
 returns-in-Err-Failed-clause-refused g c =
-    let r : Reading = record { asked_before = g.S.Source.asked c.args.source.now; asked_now = g.S.Source.asked c.fetch.new.self; before = g.S.Source.faults c.args.source.now; now = g.S.Source.faults c.fetch.new.self } in
+    let r : Reading = reading g.S.Source c.args.source.now c.fetch.new.self in
     let asked : Asks (g.S.Source.asked c.args.source.now) (g.S.Source.asked c.fetch.new.self) (c.args.name.now ∷ []) = search rules in
     let rose : Rose (g.S.Source.faults c.args.source.now) (g.S.Source.faults c.fetch.new.self) = search rules in
-    graph_unread (g.S.Source.tells c.args.source.now) c.args.blocks.now.listed.items c.args.name.now r (record { asked = asked; rose = rose })
+    graph_unread (g.S.Source.contents c.args.source.now) c.args.blocks.now.listed.items c.args.name.now r (record { asked = asked; rose = rose })
 
 pub returns-clause-refused : goal.returns-clause-refused
 returns-clause-refused g c =
     let blocks = c.args.blocks.now.listed.items in
-    let tells = g.S.Source.tells c.args.source.now in
-    let r : Reading = record { asked_before = g.S.Source.asked c.args.source.now; asked_now = g.S.Source.asked c.fetch.new.self; before = g.S.Source.faults c.args.source.now; now = g.S.Source.faults c.fetch.new.self } in
-    subst (λ f. RefusesAsDue f r (λ a. AfterFile tells blocks c.args.name.now a (λ g. ⊥))) (sym c.fault_of_graph.ensures)
-    (graph_fails tells blocks c.args.name.now r c.in-Err.fault (λ other.
-    of_content (graph_of blocks) 1048577 (graph_of-fetched blocks) (tells c.args.name.now) c.in-Ok.bytes.items (Err c.in-Err.fault) c.in-Ok.ensures.bytes (rw c.as_slice.ensures.value at (c.in-Err.ensures.graph other))))
+    let contents = g.S.Source.contents c.args.source.now in
+    let r : Reading = reading g.S.Source c.args.source.now c.fetch.new.self in
+    subst (λ f. RefusesAsDue f r (λ a. AfterFile contents blocks c.args.name.now a (λ g. ⊥))) (sym c.fault_of_graph.ensures)
+    (graph_fails contents blocks c.args.name.now r c.in-Err.fault (λ other.
+    of_content (graph_of blocks) 1048577 (graph_of-fetched blocks) (contents c.args.name.now) c.in-Ok.bytes.items (Err c.in-Err.fault) c.in-Ok.ensures.bytes (rw c.as_slice.ensures.value at (c.in-Err.ensures.graph other))))
 
 pub returns-in-Ok-read_graph-clause-defined : goal.returns-in-Ok-read_graph-clause-defined
 returns-in-Ok-read_graph-clause-defined g c = (c.as_slice.result.now, c.in-Ok-read_graph.ensures.graph)

@@ -1,7 +1,7 @@
 use Rattle.std.proofs.Common.{[], IfSome, inl, inr, subst}
 use Rattle.std.specs.Arc.{arc_value}
 use Rattle.pt_offsets.specs.Plans.{Parts}
-use Rattle.pt_sensors.specs.Asked.{Contents}
+use Rattle.pt_io.specs.Calls.{Contents}
 use Rattle.pt_sensors.specs.Listed.{rows_for}
 use Rattle.pt_sensors.specs.Places.{of_run}
 use Rattle.pt_audit.specs.declared.verdict.Verdict.{Verdict}
@@ -16,29 +16,29 @@ use Rattle.pt_run.proofs.audit.judge.Goals as goal
 
 pub returns-in-Err-clause-due : goal.returns-in-Err-clause-due
 returns-in-Err-clause-due g c =
-    let tells : Contents = g.S.Source.tells c.args.source.now in
+    let contents : Contents = g.S.Source.contents c.args.source.now in
     let plan : Parts = arc_value c.args.plan.now in
     let log = c.args.log.now in
-    λ a is out. on_admitted tells plan.graph (λ a p rows. RefusedWith fault.ReadLog a × LastFails plan.graph [] log a.read) (IsJudgedBy log tells plan.graph []) a (λ p rows k. inl k) (c.in-Err.ensures.refused a is out)
+    λ a is out. on_admitted contents plan.graph (λ a p rows. RefusedWith fault.ReadLog a × LastFails plan.graph [] log a.read) (IsJudgedBy log contents plan.graph []) a (λ p rows k. inl k) (c.in-Err.ensures.refused a is out)
 
 pub returns-in-Fine-clause-due : goal.returns-in-Fine-clause-due
 returns-in-Fine-clause-due g c =
-    let tells : Contents = g.S.Source.tells c.args.source.now in
+    let contents : Contents = g.S.Source.contents c.args.source.now in
     let plan : Parts = arc_value c.args.plan.now in
     let log = c.args.log.now in
     let rows = of_run plan.graph (rows_for c.in-Ok.found.entries.items) in
     let judged : IsJudged plan rows c.in-Ok.found.bytes.items c.in-Ok-verdict_on.verdict = subst (λ bs. IsJudged plan rows bs c.in-Ok-verdict_on.verdict) c.as_slice.ensures.value c.in-Ok-verdict_on.ensures in
-    let content = judged_content plan rows (tells log) c.in-Ok.found.bytes.items c.in-Ok-verdict_on.verdict c.in-Ok.ensures.bytes judged in
-    let fine : IfSome (tells log) (λ bytes. IsJudged plan rows bytes Fine) = subst (λ (v : Verdict). IfSome (tells log) (λ bytes. IsJudged plan rows bytes v)) c.in-Fine.is content in
-    λ a is puts. past_all_rows tells plan c.in-Ok.found.entries.items (IsJudgedBy log tells plan.graph []) c.in-Ok.ensures.rows a (inr (inr (inr (fine, puts))))
+    let content = judged_content plan rows (contents log) c.in-Ok.found.bytes.items c.in-Ok-verdict_on.verdict c.in-Ok.ensures.bytes judged in
+    let fine : IfSome (contents log) (λ bytes. IsJudged plan rows bytes Fine) = subst (λ (v : Verdict). IfSome (contents log) (λ bytes. IsJudged plan rows bytes v)) c.in-Fine.is content in
+    λ a is puts. past_all_rows contents plan c.in-Ok.found.entries.items (IsJudgedBy log contents plan.graph []) c.in-Ok.ensures.rows a (inr (inr (inr (fine, puts))))
 
 pub returns-clause-due : goal.returns-clause-due
 returns-clause-due g c =
-    let tells : Contents = g.S.Source.tells c.args.source.now in
+    let contents : Contents = g.S.Source.contents c.args.source.now in
     let plan : Parts = arc_value c.args.plan.now in
     let log = c.args.log.now in
     let rows = of_run plan.graph (rows_for c.in-Ok.found.entries.items) in
     let judged : IsJudged plan rows c.in-Ok.found.bytes.items c.in-Ok-verdict_on.verdict = subst (λ bs. IsJudged plan rows bs c.in-Ok-verdict_on.verdict) c.as_slice.ensures.value c.in-Ok-verdict_on.ensures in
-    let content = judged_content plan rows (tells log) c.in-Ok.found.bytes.items c.in-Ok-verdict_on.verdict c.in-Ok.ensures.bytes judged in
-    let unlawful = judged_unlawful plan rows (tells log) c.in-Ok-verdict_on.verdict c.in_default.not-Fine content in
-    λ a is out. past_all_rows tells plan c.in-Ok.found.entries.items (IsJudgedBy log tells plan.graph []) c.in-Ok.ensures.rows a (inr (inr (inl (c.in-Ok-verdict_on.verdict, out, unlawful))))
+    let content = judged_content plan rows (contents log) c.in-Ok.found.bytes.items c.in-Ok-verdict_on.verdict c.in-Ok.ensures.bytes judged in
+    let unlawful = judged_unlawful plan rows (contents log) c.in-Ok-verdict_on.verdict c.in_default.not-Fine content in
+    λ a is out. past_all_rows contents plan c.in-Ok.found.entries.items (IsJudgedBy log contents plan.graph []) c.in-Ok.ensures.rows a (inr (inr (inl (c.in-Ok-verdict_on.verdict, out, unlawful))))

@@ -7,5 +7,5 @@ use Rattle.pt_run.proofs.Ending.{free_due}
 use Rattle.pt_run.proofs.check.check_answer.Goals as goal
 
 pub returns-in-Ok : goal.returns-in-Ok
-returns-in-Ok c = λ tells r.
+returns-in-Ok c = λ contents r.
     free_due (string_bytes {Z = Global}) c.check_text.result c.args.graph.now (level_of c.in-Ok._ranks) r (λ a. AfterOffsets c.args.graph.now a (OnlyPuts a (IsChecked c.args.graph.now))) c.in-Ok.ensures.levels (c.check_text.ensures r)

@@ -10,7 +10,7 @@ use Rattle.pt_run.proofs.meaning.meaning_answer.Goals as goal
 
 pub returns-in-Ok-clause-due : goal.returns-in-Ok-clause-due
 returns-in-Ok-clause-due g c =
-    free_due string_bytes c.meaning_text.result c.args.graph.now (level_of c.in-Ok.ranks) _ (λ a. AfterRows Taken (g.S.Source.tells c.args.source.now) c.args.graph.now [] a (λ rows. IsMeantBy c.args.graph.now rows a)) c.in-Ok.ensures.levels c.meaning_text.ensures.due
+    free_due string_bytes c.meaning_text.result c.args.graph.now (level_of c.in-Ok.ranks) _ (λ a. AfterRows Taken (g.S.Source.contents c.args.source.now) c.args.graph.now [] a (λ rows. IsMeantBy c.args.graph.now rows a)) c.in-Ok.ensures.levels c.meaning_text.ensures.due
 
 pub returns-in-Err-clause-asks : goal.returns-in-Err-clause-asks
 returns-in-Err-clause-asks g c =

@@ -1,4 +1,5 @@
-use Rattle.std.proofs.Common.{rules}
+use Rattle.std.proofs.Common.{◌≡◌, ◌*◌, ◌≤◌, length, arith, rules, ap}
+use Rattle.std.proofs.Math.Nat.{mul-le-mul_right}
 use Rattle.std.specs.Prelude.{string_bytes}
 use Rattle.std.specs.declared.alloc.Global.{Global}
 use Rattle.pt_causality.specs.Ranked.{rank_of}
@@ -7,6 +8,12 @@ use Rattle.pt_run.specs.Causes.{IsTooLongForAll}
 use Rattle.pt_run.specs.Written.{FitOnAll, IsTables}
 use Rattle.pt_run.proofs.Ending.{long_due, meant_due}
 use Rattle.pt_run.proofs.meaning.meaning_tables.Goals as goal
+
+pub overflow_mul-most : goal.overflow_mul-most
+overflow_mul-most c =
+    let count : length c.as_slice.result.now ≡ length c.args.graph.now.platforms = ap length c.as_slice.ensures in
+    let product : c.args.graph.now.claims * length c.as_slice.result.now ≤ 100000000 * length c.as_slice.result.now = mul-le-mul_right (length c.as_slice.result.now) c.requires.lawful.few_claims in
+    omega (arith, product, count, c.requires.lawful.few_platforms)
 
 pub returns-in-Err-Long : goal.returns-in-Err-Long
 returns-in-Err-Long c = λ r.

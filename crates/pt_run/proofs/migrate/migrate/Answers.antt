@@ -1,28 +1,27 @@
 use Rattle.std.proofs.Common.{rules, ◌≡◌, [], inl, inr, refl}
+use Rattle.pt_io.specs.Calls.{Reading, Writing, reading, writing}
 use Rattle.pt_io.specs.Causes.{Appends, AppendsPart, Rose}
-use Rattle.pt_run.proofs.Asks.{from_told}
-use Rattle.pt_sensors.specs.Asked.{Reading}
-use Rattle.pt_run.specs.Causes.{Writing}
+use Rattle.pt_run.proofs.Asks.{from_reported}
 use Rattle.pt_run.specs.Due.{Answer, IsDueTo}
 use Rattle.pt_run.specs.Texts.{left_by}
 use Rattle.pt_words.specs.Grammar.{migrate}
 use Rattle.pt_run.specs.Written.{leaves_nothing}
-use Rattle.pt_run.proofs.Ending.{has_nothing, told_due}
+use Rattle.pt_run.proofs.Ending.{has_nothing, reported_due}
 use Rattle.pt_run.proofs.migrate.migrate.Goals as goal
 
 pub returns-in-Err-clause-due : goal.returns-in-Err-clause-due
 returns-in-Err-clause-due g c =
-    let tells = g.S.Source.tells c.args.source.now in
+    let contents = g.S.Source.contents c.args.source.now in
     let blocks = c.args.blocks.now.listed.items in
-    let r : Reading = record { asked_before = g.S.Source.asked c.args.source.now; asked_now = g.S.Source.asked c.migrated.new.source; before = g.S.Source.faults c.args.source.now; now = g.S.Source.faults c.migrated.new.source } in
-    let w : Writing = record { before = g.K.Sink.faults c.args.out.now; now = g.K.Sink.faults c.args.out.now; written_before = g.K.Sink.written c.args.out.now; written_now = g.K.Sink.written c.args.out.now } in
+    let r : Reading = reading g.S.Source c.args.source.now c.migrated.new.source in
+    let w : Writing = writing g.K.Sink c.args.out.now c.args.out.now in
     let a : Answer = record { fault = c.refused.result.fault; left = left_by c.refused.result; read = r; wrote = w } in
-    told_due a c.in-Err.fault c.tell-fault.result (IsDueTo (migrate c.args.name.now) tells blocks) (has_nothing c.refused.result [] [] c.refused.ensures.left) refl c.refused.ensures.fault c.tell-fault.ensures.fault c.in-Err.ensures.due
+    reported_due a c.in-Err.fault c.report-fault.result (IsDueTo (migrate c.args.name.now) contents blocks) (has_nothing c.refused.result [] [] c.refused.ensures.left) refl c.refused.ensures.fault c.report-fault.ensures.fault c.in-Err.ensures.due
 
 pub returns-then-is_err-clause-due : goal.returns-then-is_err-clause-due
 returns-then-is_err-clause-due g c =
-    let r : Reading = record { asked_before = g.S.Source.asked c.args.source.now; asked_now = g.S.Source.asked c.migrated.new.source; before = g.S.Source.faults c.args.source.now; now = g.S.Source.faults c.migrated.new.source } in
-    let w : Writing = record { before = g.K.Sink.faults c.args.out.now; now = g.K.Sink.faults c.put_text.new.out; written_before = g.K.Sink.written c.args.out.now; written_now = g.K.Sink.written c.put_text.new.out } in
+    let r : Reading = reading g.S.Source c.args.source.now c.migrated.new.source in
+    let w : Writing = writing g.K.Sink c.args.out.now c.put_text.new.out in
     let o = c.refused-then-is_err.result in
     let rose : Rose (g.K.Sink.faults c.args.out.now) (g.K.Sink.faults c.put_text.new.out) = search rules in
     let part : AppendsPart (g.K.Sink.written c.args.out.now) (g.K.Sink.written c.put_text.new.out) c.in-Ok.text.items = search rules in
@@ -30,8 +29,8 @@ returns-then-is_err-clause-due g c =
 
 pub returns-clause-due : goal.returns-clause-due
 returns-clause-due g c =
-    let r : Reading = record { asked_before = g.S.Source.asked c.args.source.now; asked_now = g.S.Source.asked c.migrated.new.source; before = g.S.Source.faults c.args.source.now; now = g.S.Source.faults c.migrated.new.source } in
-    let w : Writing = record { before = g.K.Sink.faults c.args.out.now; now = g.K.Sink.faults c.put_text.new.out; written_before = g.K.Sink.written c.args.out.now; written_now = g.K.Sink.written c.put_text.new.out } in
+    let r : Reading = reading g.S.Source c.args.source.now c.migrated.new.source in
+    let w : Writing = writing g.K.Sink c.args.out.now c.put_text.new.out in
     let o = c.done.result in
     let none : left_by o ≡ leaves_nothing = search rules in
     let all : Appends (g.K.Sink.written c.args.out.now) (g.K.Sink.written c.put_text.new.out) c.in-Ok.text.items = search rules in
@@ -39,5 +38,5 @@ returns-clause-due g c =
 
 pub returns-in-Err-clause-asks : goal.returns-in-Err-clause-asks
 returns-in-Err-clause-asks g c =
-    from_told (g.S.Source.tells c.args.source.now) c.args.blocks.now.listed.items c.args.name.now (λ z. []) [] (g.S.Source.asked c.args.source.now) (g.S.Source.asked c.migrated.new.source)
-    c.refused.result.fault c.in-Err.fault c.tell-fault.result c.refused.ensures.fault c.tell-fault.ensures.fault c.in-Err.ensures.asks
+    from_reported (g.S.Source.contents c.args.source.now) c.args.blocks.now.listed.items c.args.name.now (λ z. []) [] (g.S.Source.asked c.args.source.now) (g.S.Source.asked c.migrated.new.source)
+    c.refused.result.fault c.in-Err.fault c.report-fault.result c.refused.ensures.fault c.report-fault.ensures.fault c.in-Err.ensures.asks

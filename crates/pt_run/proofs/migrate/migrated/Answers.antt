@@ -1,5 +1,5 @@
 use Rattle.std.proofs.Common.{ℕ, List, inl, inr, ⊎_elim}
-use Rattle.pt_sensors.specs.Asked.{Reading}
+use Rattle.pt_io.specs.Calls.{Reading, reading}
 use Rattle.pt_run.specs.declared.fault.Fault.TheVariants.{Memory}
 use Rattle.pt_run.specs.Due.{OnlyPuts, RefusedWith}
 use Rattle.pt_run.specs.Migrating.{IsMigrated}
@@ -8,13 +8,13 @@ use Rattle.pt_run.proofs.migrate.migrated.Goals as goal
 
 pub returns-in-Err-clause-due : goal.returns-in-Err-clause-due
 returns-in-Err-clause-due g c =
-    let tells = g.S.Source.tells c.args.source.now in
+    let contents = g.S.Source.contents c.args.source.now in
     let blocks = c.args.blocks.now.listed.items in
-    λ a is out. past_file tells blocks c.args.name.now a.read a (λ z. OnlyPuts a (IsMigrated z blocks)) (c.in-Err.ensures.refused a is out)
+    λ a is out. past_file contents blocks c.args.name.now a.read a (λ z. OnlyPuts a (IsMigrated z blocks)) (c.in-Err.ensures.refused a is out)
 
 pub returns-in-Ok-graph_line-clause-due : goal.returns-in-Ok-graph_line-clause-due
 returns-in-Ok-graph_line-clause-due g c =
     let blocks = c.args.blocks.now.listed.items in
-    let r : Reading = record { asked_before = g.S.Source.asked c.args.source.now; asked_now = g.S.Source.asked c.graph_at.new.source; before = g.S.Source.faults c.args.source.now; now = g.S.Source.faults c.graph_at.new.source } in
+    let r : Reading = reading g.S.Source c.args.source.now c.graph_at.new.source in
     λ a is put. ⊎_elim (λ (out : RefusedWith Memory a). inl out) (λ (k : OnlyPuts a (IsMigrated c.in-Ok.graph blocks)). inr (inr (inr (c.in-Ok.graph, c.in-Ok.ensures.graph, k))))
     (text_due (λ (text : List ℕ). text) c.in-Ok-graph_line.line.items r (IsMigrated c.in-Ok.graph blocks) c.in-Ok-graph_line.ensures a is put)

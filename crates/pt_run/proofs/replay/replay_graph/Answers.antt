@@ -1,28 +1,27 @@
 use Rattle.std.proofs.Common.{[], ◌∷◌, subst, refl}
 use Rattle.std.specs.Arc.{arc_value}
+use Rattle.pt_io.specs.Calls.{Reading, Writing, reading, writing}
 use Rattle.pt_types.specs.declared.graph.Graph.{Graph}
-use Rattle.pt_sensors.specs.Asked.{Reading}
-use Rattle.pt_run.specs.Causes.{Writing}
 use Rattle.pt_run.specs.Asks.{AsksOver}
 use Rattle.pt_run.specs.Due.{IsReplayedBy}
-use Rattle.pt_run.specs.Flown.{stop_in}
-use Rattle.pt_run.proofs.Asks.{replayed_asks, unplanned_asks}
-use Rattle.pt_run.proofs.Flying.{replay_due}
+use Rattle.pt_run.specs.Texts.{stop_in}
+use Rattle.pt_run.proofs.Asks.{ended_asks, unplanned_asks}
+use Rattle.pt_run.proofs.ReplayEnds.{replay_due}
 use Rattle.pt_run.proofs.Planned.{unplanned}
 use Rattle.pt_run.proofs.replay.replay_graph.Goals as goal
 
 pub returns-clause-due : goal.returns-clause-due
 returns-clause-due g c =
-    let tells = g.S.Source.tells c.args.source.now in
-    let r : Reading = record { asked_before = g.S.Source.asked c.args.source.now; asked_now = g.S.Source.asked c.replay_of-ran.new.source; before = g.S.Source.faults c.args.source.now; now = g.S.Source.faults c.replay_of-ran.new.source } in
-    let w : Writing = record { before = g.K.Sink.faults c.args.out.now; now = g.K.Sink.faults c.end_replay.new.out; written_before = g.K.Sink.written c.args.out.now; written_now = g.K.Sink.written c.end_replay.new.out } in
-    replay_due c.args.air.now c.args.log tells (arc_value c.in-Ok.plan) r w c.args.graph c.in-Ok.ensures.plan c.replay_of-ran.result c.end_replay.result c.replay_of-ran.ensures.ran c.replay_of-ran.ensures.stopped c.end_replay.ensures.ended
+    let contents = g.S.Source.contents c.args.source.now in
+    let r : Reading = reading g.S.Source c.args.source.now c.replay_of-ran.new.source in
+    let w : Writing = writing g.K.Sink c.args.out.now c.end_run.new.out in
+    replay_due c.args.air.now c.args.log contents (arc_value c.in-Ok.plan) r w c.args.graph c.in-Ok.ensures.plan c.replay_of-ran.result c.end_run.result c.replay_of-ran.ensures.ran c.replay_of-ran.ensures.stopped c.end_run.ensures.ended
 
 pub returns-clause-asks : goal.returns-clause-asks
 returns-clause-asks g c =
     let last = c.args.air.now ∷ [] in
-    let w : Writing = record { before = g.K.Sink.faults c.args.out.now; now = g.K.Sink.faults c.end_replay.new.out; written_before = g.K.Sink.written c.args.out.now; written_now = g.K.Sink.written c.end_replay.new.out } in
-    replayed_asks c.replay_of-ran.result c.end_replay.result w c.args.graph.actors last (g.S.Source.asked c.args.source.now) (g.S.Source.asked c.replay_of-ran.new.source) c.end_replay.ensures.ended
+    let w : Writing = writing g.K.Sink c.args.out.now c.end_run.new.out in
+    ended_asks c.replay_of-ran.result c.end_run.result w c.args.graph.actors last (g.S.Source.asked c.args.source.now) (g.S.Source.asked c.replay_of-ran.new.source) c.end_run.ensures.ended
     (subst (λ (h : Graph). AsksOver (stop_in c.replay_of-ran.result) [] h.actors last (g.S.Source.asked c.args.source.now) (g.S.Source.asked c.replay_of-ran.new.source)) c.in-Ok.ensures.plan c.replay_of-ran.ensures.asks)
 
 pub returns-in-Err-clause-asks : goal.returns-in-Err-clause-asks
@@ -30,7 +29,7 @@ returns-in-Err-clause-asks g c = unplanned_asks c.args.graph.actors (c.args.air.
 
 pub returns-in-Err-clause-due : goal.returns-in-Err-clause-due
 returns-in-Err-clause-due g c =
-    let tells = g.S.Source.tells c.args.source.now in
-    let r : Reading = record { asked_before = g.S.Source.asked c.args.source.now; asked_now = g.S.Source.asked c.args.source.now; before = g.S.Source.faults c.args.source.now; now = g.S.Source.faults c.args.source.now } in
-    let w : Writing = record { before = g.K.Sink.faults c.args.out.now; now = g.K.Sink.faults c.args.out.now; written_before = g.K.Sink.written c.args.out.now; written_now = g.K.Sink.written c.args.out.now } in
-    unplanned c.in-Err.ending c.args.graph c.in-Err.ensures.refused [] [] tells r w (IsReplayedBy c.args.air.now c.args.log tells c.args.graph []) refl
+    let contents = g.S.Source.contents c.args.source.now in
+    let r : Reading = reading g.S.Source c.args.source.now c.args.source.now in
+    let w : Writing = writing g.K.Sink c.args.out.now c.args.out.now in
+    unplanned c.in-Err.ending c.args.graph c.in-Err.ensures.refused [] [] contents r w (IsReplayedBy c.args.air.now c.args.log contents c.args.graph []) refl

@@ -6,4 +6,4 @@ use Rattle.pt_run.proofs.Ending.{free_due}
 use Rattle.pt_run.proofs.slacks.slacks_answer.Goals as goal
 
 pub returns-in-Ok : goal.returns-in-Ok
-returns-in-Ok c = λ tells r. free_due (string_bytes {Z = Global}) c.least_text.result c.args.graph.now (level_of c.in-Ok._ranks) r (IsSlackedBy c.args.graph.now) c.in-Ok.ensures.levels (c.least_text.ensures r)
+returns-in-Ok c = λ contents r. free_due (string_bytes {Z = Global}) c.least_text.result c.args.graph.now (level_of c.in-Ok._ranks) r (IsSlackedBy c.args.graph.now) c.in-Ok.ensures.levels (c.least_text.ensures r)

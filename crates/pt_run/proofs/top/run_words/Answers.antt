@@ -1,10 +1,9 @@
 use Rattle.std.specs.Prelude.{option_map}
 use Rattle.std.proofs.Common.{rules, ◌≡◌, ◌∙◌, List, None, Option, Some, ap, refl, subst, sym}
+use Rattle.pt_io.specs.Calls.{Reading, Writing, reading, writing}
 use Rattle.pt_sensors.proofs.Asking.{asks_none}
-use Rattle.pt_sensors.specs.Asked.{Reading}
-use Rattle.pt_io.specs.Told.{ClockView, tell}
+use Rattle.pt_io.specs.Clocks.{ClockView, viewed}
 use Rattle.pt_words.specs.Views.{in_words}
-use Rattle.pt_run.specs.Causes.{Writing}
 use Rattle.pt_run.specs.Due.{IsDue}
 use Rattle.pt_run.specs.Asks.{AsksOf}
 use Rattle.pt_run.specs.Texts.{left_at}
@@ -20,59 +19,59 @@ make-requires g c = made_number_in c.args.words.now c.in-Ok-Some-Make.field-0 c.
 
 pub returns-in-Ok-Some-Make-clause-asks : goal.returns-in-Ok-Some-Make-clause-asks
 returns-in-Ok-Some-Make-clause-asks g c =
-    asks_for_none c.args.words.now c.in-Ok-Some-Make.field-0 c.in-Ok-Some-Make.number c.in-Ok-Some-Make.workers c.make.result.fault (g.S.Source.tells c.args.source.now) c.args.blocks.now.listed.items (g.S.Source.asked c.args.source.now) (g.S.Source.faults c.args.source.now)
+    asks_for_none c.args.words.now c.in-Ok-Some-Make.field-0 c.in-Ok-Some-Make.number c.in-Ok-Some-Make.workers c.make.result.fault (g.S.Source.contents c.args.source.now) c.args.blocks.now.listed.items (g.S.Source.asked c.args.source.now) (g.S.Source.faults c.args.source.now)
     c.in-Ok-Some-Make.ensures (c.in-Ok-Some-Make.field-0-is ∙ ap Some c.in-Ok-Some-Make.field-0-0-is)
 
 pub returns-clause-asks : goal.returns-clause-asks
 returns-clause-asks g c =
-    let tells = g.S.Source.tells c.args.source.now in
+    let contents = g.S.Source.contents c.args.source.now in
     let asked = g.S.Source.asked c.args.source.now in
     let r : Reading = record { asked_before = asked; asked_now = asked; before = g.S.Source.faults c.args.source.now; now = g.S.Source.faults c.args.source.now } in
-    elim c.match-order_of.branch [
+    elim c.match-order.branch [
       | in-Ok-None w ↦
           let none : order_of c.args.words.now ≡ None = search rules in
-          subst (λ o. AsksOf c.refused.result.fault o tells c.args.blocks.now.listed.items r) (sym none) (asks_none asked asked refl)
+          subst (λ o. AsksOf c.refused.result.fault o contents c.args.blocks.now.listed.items r) (sym none) (asks_none asked asked refl)
       | in-Err w ↦
           let memory : c.refused.result.fault ≡ Some Memory = search rules in
-          asked_nothing (order_of c.args.words.now) c.refused.result.fault tells c.args.blocks.now.listed.items r memory (asks_none asked asked refl)
+          asked_nothing (order_of c.args.words.now) c.refused.result.fault contents c.args.blocks.now.listed.items r memory (asks_none asked asked refl)
     ]
 
 pub returns-in-Ok-Some-Make-clause-due : goal.returns-in-Ok-Some-Make-clause-due
 returns-in-Ok-Some-Make-clause-due g c =
-    let tells = g.S.Source.tells c.args.source.now in
-    let r : Reading = record { asked_before = g.S.Source.asked c.args.source.now; asked_now = g.S.Source.asked c.args.source.now; before = g.S.Source.faults c.args.source.now; now = g.S.Source.faults c.args.source.now } in
-    let w : Writing = record { before = g.K.Sink.faults c.args.out.now; now = g.K.Sink.faults c.make.new.out; written_before = g.K.Sink.written c.args.out.now; written_now = g.K.Sink.written c.make.new.out } in
-    let views : List ClockView = tell g.C.Clock.told g.C.Clock.ahead c.args.clocks.now.items in
+    let contents = g.S.Source.contents c.args.source.now in
+    let r : Reading = reading g.S.Source c.args.source.now c.args.source.now in
+    let w : Writing = writing g.K.Sink c.args.out.now c.make.new.out in
+    let views : List ClockView = viewed g.C.Clock.readings g.C.Clock.ahead c.args.clocks.now.items in
     let order = order_is c.args.words.now c.in-Ok-Some-Make.field-0 c.in-Ok-Some-Make.number c.in-Ok-Some-Make.workers c.in-Ok-Some-Make.ensures (c.in-Ok-Some-Make.field-0-is ∙ ap Some c.in-Ok-Some-Make.field-0-0-is) in
-    subst (λ (o : Option Order). IsDue o tells c.args.blocks.now.listed.items (record { fault = c.make.result.fault; left = left_at c.make.result o views views; read = r; wrote = w })) order (c.make.ensures.due tells r)
+    subst (λ (o : Option Order). IsDue o contents c.args.blocks.now.listed.items (record { fault = c.make.result.fault; left = left_at c.make.result o views views; read = r; wrote = w })) order (c.make.ensures.due contents r)
 
 pub returns-in-Ok-Some-Replay-clause-due : goal.returns-in-Ok-Some-Replay-clause-due
 returns-in-Ok-Some-Replay-clause-due g c =
-    let tells = g.S.Source.tells c.args.source.now in
-    let r : Reading = record { asked_before = g.S.Source.asked c.args.source.now; asked_now = g.S.Source.asked c.replay.new.source; before = g.S.Source.faults c.args.source.now; now = g.S.Source.faults c.replay.new.source } in
-    let w : Writing = record { before = g.K.Sink.faults c.args.out.now; now = g.K.Sink.faults c.replay.new.out; written_before = g.K.Sink.written c.args.out.now; written_now = g.K.Sink.written c.replay.new.out } in
-    let views : List ClockView = tell g.C.Clock.told g.C.Clock.ahead c.args.clocks.now.items in
+    let contents = g.S.Source.contents c.args.source.now in
+    let r : Reading = reading g.S.Source c.args.source.now c.replay.new.source in
+    let w : Writing = writing g.K.Sink c.args.out.now c.replay.new.out in
+    let views : List ClockView = viewed g.C.Clock.readings g.C.Clock.ahead c.args.clocks.now.items in
     let order : Some (replay c.in-Ok-Some-Replay.graph.now c.in-Ok-Some-Replay.air.now c.in-Ok-Some-Replay.workers c.in-Ok-Some-Replay.log) ≡ order_of c.args.words.now =
     sym (ap (option_map in_words) (c.in-Ok-Some-Replay.field-0-is ∙ ap Some c.in-Ok-Some-Replay.field-0-0-is)) ∙ c.in-Ok-Some-Replay.ensures in
-    subst (λ (o : Option Order). IsDue o tells c.args.blocks.now.listed.items (record { fault = c.replay.result.fault; left = left_at c.replay.result o views views; read = r; wrote = w })) order c.replay.ensures.due
+    subst (λ (o : Option Order). IsDue o contents c.args.blocks.now.listed.items (record { fault = c.replay.result.fault; left = left_at c.replay.result o views views; read = r; wrote = w })) order c.replay.ensures.due
 
 pub returns-in-Ok-Some-Over-clause-due : goal.returns-in-Ok-Some-Over-clause-due
 returns-in-Ok-Some-Over-clause-due g c =
-    let tells = g.S.Source.tells c.args.source.now in
-    let r : Reading = record { asked_before = g.S.Source.asked c.args.source.now; asked_now = g.S.Source.asked c.run_file.new.source; before = g.S.Source.faults c.args.source.now; now = g.S.Source.faults c.run_file.new.source } in
-    let w : Writing = record { before = g.K.Sink.faults c.args.out.now; now = g.K.Sink.faults c.run_file.new.out; written_before = g.K.Sink.written c.args.out.now; written_now = g.K.Sink.written c.run_file.new.out } in
-    let views : List ClockView = tell g.C.Clock.told g.C.Clock.ahead c.args.clocks.now.items in
-    let after : List ClockView = tell g.C.Clock.told g.C.Clock.ahead c.run_file.new.clocks.items in
+    let contents = g.S.Source.contents c.args.source.now in
+    let r : Reading = reading g.S.Source c.args.source.now c.run_file.new.source in
+    let w : Writing = writing g.K.Sink c.args.out.now c.run_file.new.out in
+    let views : List ClockView = viewed g.C.Clock.readings g.C.Clock.ahead c.args.clocks.now.items in
+    let after : List ClockView = viewed g.C.Clock.readings g.C.Clock.ahead c.run_file.new.clocks.items in
     let order : Some (over c.in-Ok-Some-Over.command c.in-Ok-Some-Over.graph.now) ≡ order_of c.args.words.now =
     sym (ap (option_map in_words) (c.in-Ok-Some-Over.field-0-is ∙ ap Some c.in-Ok-Some-Over.field-0-0-is)) ∙ c.in-Ok-Some-Over.ensures in
-    subst (λ (o : Option Order). IsDue o tells c.args.blocks.now.listed.items (record { fault = c.run_file.result.fault; left = left_at c.run_file.result o views after; read = r; wrote = w })) order c.run_file.ensures.due
+    subst (λ (o : Option Order). IsDue o contents c.args.blocks.now.listed.items (record { fault = c.run_file.result.fault; left = left_at c.run_file.result o views after; read = r; wrote = w })) order c.run_file.ensures.due
 
 pub returns-in-Ok-Some-Audit-clause-due : goal.returns-in-Ok-Some-Audit-clause-due
 returns-in-Ok-Some-Audit-clause-due g c =
-    let tells = g.S.Source.tells c.args.source.now in
-    let r : Reading = record { asked_before = g.S.Source.asked c.args.source.now; asked_now = g.S.Source.asked c.audit.new.source; before = g.S.Source.faults c.args.source.now; now = g.S.Source.faults c.audit.new.source } in
-    let w : Writing = record { before = g.K.Sink.faults c.args.out.now; now = g.K.Sink.faults c.audit.new.out; written_before = g.K.Sink.written c.args.out.now; written_now = g.K.Sink.written c.audit.new.out } in
-    let views : List ClockView = tell g.C.Clock.told g.C.Clock.ahead c.args.clocks.now.items in
+    let contents = g.S.Source.contents c.args.source.now in
+    let r : Reading = reading g.S.Source c.args.source.now c.audit.new.source in
+    let w : Writing = writing g.K.Sink c.args.out.now c.audit.new.out in
+    let views : List ClockView = viewed g.C.Clock.readings g.C.Clock.ahead c.args.clocks.now.items in
     let order : Some (audit c.in-Ok-Some-Audit.graph.now c.in-Ok-Some-Audit.log.now) ≡ order_of c.args.words.now =
     sym (ap (option_map in_words) (c.in-Ok-Some-Audit.field-0-is ∙ ap Some c.in-Ok-Some-Audit.field-0-0-is)) ∙ c.in-Ok-Some-Audit.ensures in
-    subst (λ (o : Option Order). IsDue o tells c.args.blocks.now.listed.items (record { fault = c.audit.result.fault; left = left_at c.audit.result o views views; read = r; wrote = w })) order c.audit.ensures.due
+    subst (λ (o : Option Order). IsDue o contents c.args.blocks.now.listed.items (record { fault = c.audit.result.fault; left = left_at c.audit.result o views views; read = r; wrote = w })) order c.audit.ensures.due

@@ -1,7 +1,8 @@
 use Rattle.std.proofs.Common.{Ok, Err, [], ◌∷◌, sym, subst}
+use Rattle.pt_io.specs.Calls.{Reading, reading}
 use Rattle.pt_sensors.specs.RowsOf.{rows_of}
 use Rattle.pt_sensors.proofs.Fetched.{rows_of-fetched}
-use Rattle.pt_sensors.specs.Asked.{AsksBy, Reading}
+use Rattle.pt_sensors.specs.Asked.{AsksBy}
 use Rattle.pt_sensors.specs.Files.{CauseOfFile}
 use Rattle.pt_sensors.proofs.Asking.{asks_before_fault, of_content}
 use Rattle.pt_sensors.proofs.Recording.{rows_fail}
@@ -9,16 +10,16 @@ use Rattle.pt_sensors.proofs.file.rows_of_file.Goals as goal
 
 pub returns-in-Ok-read_rows-clause-rows : goal.returns-in-Ok-read_rows-clause-rows
 returns-in-Ok-read_rows-clause-rows g c =
-    of_content rows_of 8388609 rows_of-fetched (g.S.Source.tells c.args.source.now c.args.name.now) c.in-Ok.bytes.items (Ok c.in-Ok-read_rows.rows) c.in-Ok.ensures.bytes
+    of_content rows_of 8388609 rows_of-fetched (g.S.Source.contents c.args.source.now c.args.name.now) c.in-Ok.bytes.items (Ok c.in-Ok-read_rows.rows) c.in-Ok.ensures.bytes
     (rw c.as_slice.ensures.value at c.in-Ok-read_rows.ensures.rows)
 
 pub returns-clause-fault : goal.returns-clause-fault
 returns-clause-fault g c =
-    let tells = g.S.Source.tells c.args.source.now in
-    let r : Reading = record { asked_before = g.S.Source.asked c.args.source.now; asked_now = g.S.Source.asked c.fetch.new.self; before = g.S.Source.faults c.args.source.now; now = g.S.Source.faults c.fetch.new.self } in
-    subst (λ f. CauseOfFile c.args.actor f tells c.args.name.now r) (sym c.fault_of_rows.ensures)
-    (rows_fail tells c.args.actor c.args.name.now c.in-Err.fault r (λ other.
-    of_content rows_of 8388609 rows_of-fetched (tells c.args.name.now) c.in-Ok.bytes.items (Err c.in-Err.fault) c.in-Ok.ensures.bytes (rw c.as_slice.ensures.value at (c.in-Err.ensures.rows other))))
+    let contents = g.S.Source.contents c.args.source.now in
+    let r : Reading = reading g.S.Source c.args.source.now c.fetch.new.self in
+    subst (λ f. CauseOfFile c.args.actor f contents c.args.name.now r) (sym c.fault_of_rows.ensures)
+    (rows_fail contents c.args.actor c.args.name.now c.in-Err.fault r (λ other.
+    of_content rows_of 8388609 rows_of-fetched (contents c.args.name.now) c.in-Ok.bytes.items (Err c.in-Err.fault) c.in-Ok.ensures.bytes (rw c.as_slice.ensures.value at (c.in-Err.ensures.rows other))))
 
 pub returns-clause-asks_by : goal.returns-clause-asks_by
 returns-clause-asks_by g c =

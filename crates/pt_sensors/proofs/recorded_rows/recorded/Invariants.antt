@@ -5,8 +5,8 @@ use Rattle.pt_sensors.proofs.recorded_rows.recorded.Given as goal
 
 abbrev pub invariant-loop-number : goal.invariant-loop-number
 invariant-loop-number g l = record {
-  rows : AreFirstRows l.late (g.S.Source.tells l.fn.source) l.graph l.all.items l.number;
-  keeps : g.S.Source.tells l.source ≡ g.S.Source.tells l.fn.source;
+  rows : AreFirstRows l.late (g.S.Source.contents l.fn.source) l.graph l.all.items l.number;
+  keeps : g.S.Source.contents l.source ≡ g.S.Source.contents l.fn.source;
   grows : g.S.Source.faults l.fn.source ≤ g.S.Source.faults l.source;
   asks : Asks (g.S.Source.asked l.fn.source) (g.S.Source.asked l.source) (files_before l.graph l.number);
 }

@@ -4,7 +4,7 @@ use Rattle.pt_tables.proofs.meaning.tables_of_meaning.Goals as goal
 
 pub returns-clause-text : goal.returns-clause-text
 returns-clause-text c =
-    let handed = c.in_ok-fire_all.ensures.meaning in
+    let handed = c.in_ok-reference.ensures.meaning in
     record {
       firings = handed.firings;
       meaning = handed.meaning;

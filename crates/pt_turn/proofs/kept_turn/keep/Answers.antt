@@ -2,7 +2,7 @@ use Rattle.std.proofs.Common.{◌≡◌, List, [], ◌∷◌, ◌++◌}
 use Rattle.pt_semantics.specs.Kept.{settled}
 use Rattle.pt_semantics.specs.Turn.{Turn}
 use Rattle.pt_history.specs.Turns.{claiming, entering, fresh, posting, taking}
-use Rattle.pt_post.specs.Posted.{picked}
+use Rattle.pt_turn.specs.Posts.Posted.{picked}
 use Rattle.pt_turn.proofs.Changing.{begun, changed}
 use Rattle.pt_turn.proofs.kept_turn.keep.Goals as goal
 

@@ -5,8 +5,8 @@ use Rattle.pt_types.specs.declared.firing.Done.{Done}
 use Rattle.pt_history.specs.Lists.{on_last}
 use Rattle.pt_history.specs.Turns.{posting}
 use Rattle.pt_history.proofs.LastMember.{length-on_last}
-use Rattle.pt_post.specs.Posted.{ArePlaces, picked}
-use Rattle.pt_post.proofs.Posting.{picked_more, read_each}
+use Rattle.pt_turn.specs.Posts.Posted.{ArePlaces, picked}
+use Rattle.pt_turn.proofs.Posts.Posting.{picked_more, read_each}
 use Rattle.pt_turn.proofs.Changing.{posts_more, posts_none}
 use Rattle.pt_turn.proofs.kept_turn.keep_posted.Goals as goal
 

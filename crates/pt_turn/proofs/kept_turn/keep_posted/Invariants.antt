@@ -1,7 +1,7 @@
 use Rattle.std.proofs.Common.{◌≡◌, ◌-◌, take}
 use Rattle.pt_history.specs.Lists.{on_last}
 use Rattle.pt_history.specs.Turns.{posting}
-use Rattle.pt_post.specs.Posted.{picked}
+use Rattle.pt_turn.specs.Posts.Posted.{picked}
 use Rattle.pt_turn.proofs.kept_turn.keep_posted.Given as goal
 
 abbrev pub invariant-loop-place : goal.invariant-loop-place

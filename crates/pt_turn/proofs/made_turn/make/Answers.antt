@@ -1,7 +1,7 @@
 use Rattle.std.proofs.Common.{◌++◌, sym, ap, subst}
 use Rattle.pt_turn.specs.declared.claim_step.Ending.{Ending}
 use Rattle.pt_turn.specs.Steps.{took_late, turn_of}
-use Rattle.pt_state.specs.State.{state_of}
+use Rattle.pt_turn.specs.Fields.State.{state_of}
 use Rattle.pt_turn.specs.Faults.{IsFaultOf}
 use Rattle.pt_turn.proofs.Lateness.{turn_late}
 use Rattle.pt_turn.proofs.made_turn.make.Goals as goal

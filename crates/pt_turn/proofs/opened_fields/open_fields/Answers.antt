@@ -3,10 +3,10 @@ use Rattle.pt_types.specs.declared.graph.Graph.{Graph}
 use Rattle.pt_semantics.specs.Rows.{FitRows}
 use Rattle.pt_queue.specs.Events.{waiting_in}
 use Rattle.pt_queue.specs.Groups.{AreGroups}
-use Rattle.pt_state.specs.declared.fields.Fields.{Fields}
-use Rattle.pt_state.specs.Outbox.{OutboxView}
-use Rattle.pt_state.specs.State.{rows_at_sensors}
-use Rattle.pt_state.specs.Sensors.{AreSensors}
+use Rattle.pt_turn.specs.declared.state.fields.Fields.{Fields}
+use Rattle.pt_turn.specs.Fields.Outbox.{OutboxView}
+use Rattle.pt_turn.specs.Fields.State.{rows_at_sensors}
+use Rattle.pt_turn.specs.Fields.Sensors.{AreSensors}
 use Rattle.pt_turn.specs.Starting.{first_of_actor, starting}
 use Rattle.pt_turn.proofs.HandedIn.{are_sensors, rows_fit, rows_same}
 use Rattle.pt_turn.proofs.Opened.{opened_is, sound_is}

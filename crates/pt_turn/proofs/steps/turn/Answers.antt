@@ -9,10 +9,10 @@ use Rattle.pt_semantics.specs.Paced.{IsClosing}
 use Rattle.pt_semantics.specs.Taking.{Takes}
 use Rattle.pt_semantics.specs.Wired.{IsWired}
 use Rattle.pt_offsets.specs.Plans.{AreOffsets}
-use Rattle.pt_state.specs.declared.fields.Fields.{Fields}
-use Rattle.pt_state.specs.State.{busy_in, left_in, state_of}
-use Rattle.pt_post.specs.Posted.{ArePosted, picked}
-use Rattle.pt_take.specs.Taken.{Arrive, NeverTakes}
+use Rattle.pt_turn.specs.declared.state.fields.Fields.{Fields}
+use Rattle.pt_turn.specs.Fields.State.{busy_in, left_in, state_of}
+use Rattle.pt_turn.specs.Posts.Posted.{ArePosted, picked}
+use Rattle.pt_turn.specs.Takes.Taken.{Arrive, NeverTakes}
 use Rattle.pt_turn.specs.declared.claim_step.Ending.{Ending}
 use Rattle.pt_turn.specs.declared.steps.Lists.{Lists}
 use Rattle.pt_turn.specs.Claiming.{HasClaimed}
@@ -20,7 +20,6 @@ use Rattle.pt_turn.specs.Steps.{HasRoom, IsFront, IsGround, IsMade, NoneSeenBefo
 use Rattle.pt_turn.proofs.Joining.{AreSteps, claims_part, is_made, late_is, never_posts, shows_end}
 use Rattle.pt_causality.specs.Branches.{AreBranches}
 use Rattle.pt_turn.proofs.steps.turn.Goals as goal
-use Rattle.pt_types.specs.Limits.{most_claims}
 
 pub posts-requires-clause-wired : goal.posts-requires-clause-wired
 posts-requires-clause-wired g c = subst IsWired (sym c.graph-graph.ensures.value) (wired c.args.plan.now.graph c.graph-graph.ensures.admitted.lawful)
@@ -67,7 +66,7 @@ returns-clause-made g c =
     let value : gr ≡ c.args.plan.now.graph = c.graph-graph.ensures.value in
     let empty = c.requires.1.1.1.1.1.1.1.1.1.1.1.0 in
     let most = c.requires.1.1.1.1.1.1.1.1.0 in
-    let few : c.args.fields.now.claims ≤ most_claims = c.requires.1.1.1.1.1.1.1.1.1.0 in
+    let few : c.args.fields.now.claims ≤ gr.claims = subst (λ (z : Graph). c.args.fields.now.claims ≤ z.claims) (sym value) c.requires.1.1.1.1.1.1.1.1.1.0 in
     let rises : (p : ℕ) → c.args.fields.now.reading ≡ Some p → p ≤ c.args.reading = c.requires.1.1.1.1.1.0 in
     let number : g.basis.platform ≡ c.args.number = c.requires.1.1.1.0 in
     let took = c.takes-late.ensures.took in
@@ -94,7 +93,7 @@ returns-clause-made g c =
       count = same;
       is_late = late_is gr c.args.reading before after c.takes-late.result ending claimed.ends;
       ends = claimed.ends;
-      claims = claims_part gr before after c.args.reading c.args.most all c.args.lists.now.claimed.items lists.claimed.items c.takes-late.result ending empty.claimed most.0 (subst (λ n. n ≤ most_claims) (sym same) few) claimed;
+      claims = claims_part gr before after c.args.reading c.args.most all c.args.lists.now.claimed.items lists.claimed.items c.takes-late.result ending empty.claimed most.0 (subst (λ n. n ≤ gr.claims) (sym same) few) claimed;
       closes = subst (λ i. Closes gr i (state_of after all) c.args.reading c.takes-late.result (state_of c.close.new.fields all)) (sym number) (c.close.ensures.closes all);
     } in
     subst (λ z. IsMade z g.basis c.args.reading c.args.most c.args.dones.now c.args.messages.now c.args.fields.now c.close.new.fields lists ending) value

@@ -1,7 +1,7 @@
 use Rattle.std.proofs.Common.{◌≡◌, List, [], ◌∷◌, length, map, refl, sym, ap, subst, ◌∙◌, eqb-true, arith}
 use Rattle.pt_types.specs.declared.firing.Done.{Done as Finished}
 use Rattle.pt_types.specs.declared.firing.Task.{Task}
-use Rattle.pt_post.specs.Posted.{AreDone}
+use Rattle.pt_turn.specs.Posts.Posted.{AreDone}
 use Rattle.pt_visits.proofs.firing.fire_all.Goals as goal
 
 no_tasks : (tasks : List Task) → length tasks ≡ 0 → tasks ≡ []

@@ -3,7 +3,7 @@ use Rattle.std.specs.Prelude.{OnOk, Result}
 use Rattle.pt_tags.specs.declared.message.Message.{Message}
 use Rattle.pt_types.specs.declared.graph.Graph.{Graph}
 use Rattle.pt_types.specs.declared.firing.OnLink.{OnLink}
-use Rattle.pt_post.specs.Posted.{AreDone}
+use Rattle.pt_turn.specs.Posts.Posted.{AreDone}
 use Rattle.pt_offsets.specs.Plans.{Parts}
 use Rattle.pt_turn.specs.Platforms.{PlatformView, level_at, state_at}
 use Rattle.pt_turn.specs.Turned.{MayCome}

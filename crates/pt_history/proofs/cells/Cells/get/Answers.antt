@@ -1,45 +1,43 @@
-use Rattle.std.proofs.Common.{◌≡◌, ◌∷◌, ◌<◌, Some, List, ℕ, length, get_or, ap, ap₂, sym, ◌∙◌, arith}
+use Rattle.std.proofs.Common.{◌≡◌, ◌+◌, ◌≤◌, ◌<◌, Some, count_ones, drop, length, take, get_or, sym, ap, ap₂, ◌∙◌, arith}
 use Rattle.std.specs.Prelude.{slice_get}
 use Rattle.std.proofs.lemmas.Grind.{get_or_default_zero}
-use Rattle.pt_history.specs.Cells.{RoomyCells, cells_at}
-use Rattle.pt_history.proofs.CellLists.{cells_get, length-cells}
-use Rattle.pt_history.proofs.Cutting.{IsWithin, piece_within}
+use Rattle.std.proofs.lemmas.List.Sums.{sum_by_more_le}
+use Rattle.pt_history.specs.Cells.{RoomyCells, group_of, ones_in}
+use Rattle.pt_history.proofs.MaskLists.{groups_get, length-groups}
 use Rattle.pt_history.proofs.cells.Cells.get.Goals as goal
 
-pub index-end-requires : goal.index-end-requires
-index-end-requires c =
-    let lists : length c.args.self.now.cells ≡ length c.self.inside.ends.items = ap (λ (v : RoomyCells). length v.cells) (sym c.self.view_is) ∙ length-cells c.self.inside.places.items c.self.inside.values.items 0 c.self.inside.ends.items in
-    omega (arith, lists, c.self.inside.ends.ok.0, c.requires)
+pub values_before-start-requires-clause-within : goal.values_before-start-requires-clause-within
+values_before-start-requires-clause-within c =
+    let many : length c.args.self.now.cells ≡ length c.self.inside.masks.items = ap (λ (v : RoomyCells). length v.cells) (sym c.self.view_is) ∙ length-groups c.self.inside.masks.items c.self.inside.values.items in
+    omega (arith, many, c.requires, ap length c.as_slice.ensures.value)
 
-pub start_of-start-requires : goal.start_of-start-requires
-start_of-start-requires c =
-    let lists : length c.args.self.now.cells ≡ length c.self.inside.ends.items = ap (λ (v : RoomyCells). length v.cells) (sym c.self.view_is) ∙ length-cells c.self.inside.places.items c.self.inside.values.items 0 c.self.inside.ends.items in
-    omega (arith, lists, c.requires, ap length c.as_slice.ensures.value)
+pub index-requires : goal.index-requires
+index-requires c =
+    let many : length c.args.self.now.cells ≡ length c.self.inside.masks.items = ap (λ (v : RoomyCells). length v.cells) (sym c.self.view_is) ∙ length-groups c.self.inside.masks.items c.self.inside.values.items in
+    omega (arith, many, c.requires, c.self.inside.masks.ok.0)
 
-pub cells_between-requires-clause-places : goal.cells_between-requires-clause-places
-cells_between-requires-clause-places c =
-    let lists : length c.args.self.now.cells ≡ length c.self.inside.ends.items = ap (λ (v : RoomyCells). length v.cells) (sym c.self.view_is) ∙ length-cells c.self.inside.places.items c.self.inside.values.items 0 c.self.inside.ends.items in
-    let inside : c.args.number < length c.self.inside.ends.items = omega (arith, lists, c.requires) in
-    let end : c.index-end.result.now ≡ get_or c.self.inside.ends.items c.args.number 0 = c.index-end.ensures ∙ get_or_default_zero c.self.inside.ends.items c.args.number c.index-end.result.now inside in
-    let w : IsWithin 0 c.self.inside.ends.items c.args.number (length c.self.inside.places.items) = piece_within 0 c.self.inside.ends.items c.args.number (length c.self.inside.places.items) inside c.self.invariant.rises in
-    omega (arith, end, w.within, ap length c.as_slice-2.ensures.value)
-
-pub cells_between-requires-clause-values : goal.cells_between-requires-clause-values
-cells_between-requires-clause-values c =
-    let lists : length c.args.self.now.cells ≡ length c.self.inside.ends.items = ap (λ (v : RoomyCells). length v.cells) (sym c.self.view_is) ∙ length-cells c.self.inside.places.items c.self.inside.values.items 0 c.self.inside.ends.items in
-    let inside : c.args.number < length c.self.inside.ends.items = omega (arith, lists, c.requires) in
-    let end : c.index-end.result.now ≡ get_or c.self.inside.ends.items c.args.number 0 = c.index-end.ensures ∙ get_or_default_zero c.self.inside.ends.items c.args.number c.index-end.result.now inside in
-    let w : IsWithin 0 c.self.inside.ends.items c.args.number (length c.self.inside.places.items) = piece_within 0 c.self.inside.ends.items c.args.number (length c.self.inside.places.items) inside c.self.invariant.rises in
-    omega (arith, end, w.within, ap length c.as_slice-3.ensures.value, c.self.invariant.same)
+pub group_at-requires : goal.group_at-requires
+group_at-requires c =
+    let masks = c.self.inside.masks.items in
+    let n = c.args.number in
+    let many : length c.args.self.now.cells ≡ length masks = ap (λ (v : RoomyCells). length v.cells) (sym c.self.view_is) ∙ length-groups masks c.self.inside.values.items in
+    let within : n < length masks = omega (arith, many, c.requires) in
+    let mask : count_ones c.index.result.now ≡ count_ones (get_or masks n 0) = ap count_ones (c.index.ensures ∙ get_or_default_zero masks n c.index.result.now within) in
+    let start : c.values_before-start.result ≡ ones_in (take n masks) = c.values_before-start.ensures ∙ ap (λ ms. ones_in (take n ms)) c.as_slice.ensures.value in
+    let most : ones_in (take n masks) + count_ones (get_or masks n 0) ≤ ones_in masks = sum_by_more_le count_ones masks n 0 within in
+    omega (arith, mask, start, most, c.self.invariant.values, ap length c.as_slice-3.ensures.value)
 
 pub returns : goal.returns
 returns c =
-    let lists : length c.args.self.now.cells ≡ length c.self.inside.ends.items = ap (λ (v : RoomyCells). length v.cells) (sym c.self.view_is) ∙ length-cells c.self.inside.places.items c.self.inside.values.items 0 c.self.inside.ends.items in
-    let inside : c.args.number < length c.self.inside.ends.items = omega (arith, lists, c.requires) in
-    let end : c.index-end.result.now ≡ get_or c.self.inside.ends.items c.args.number 0 = c.index-end.ensures ∙ get_or_default_zero c.self.inside.ends.items c.args.number c.index-end.result.now inside in
-    let start : c.start_of-start.result ≡ get_or (0 ∷ c.self.inside.ends.items) c.args.number 0 = c.start_of-start.ensures ∙ ap (λ (es : List ℕ). get_or (0 ∷ es) c.args.number 0) c.as_slice.ensures.value in
-    ap (λ (v : RoomyCells). slice_get v.cells c.args.number) (sym c.self.view_is)
-    ∙ cells_get c.self.inside.places.items c.self.inside.values.items 0 c.self.inside.ends.items c.args.number inside
-    ∙ ap₂ (λ s e. Some (cells_at c.self.inside.places.items c.self.inside.values.items s e)) (sym start) (sym end)
-    ∙ ap₂ (λ ps vs. Some (cells_at ps vs c.start_of-start.result c.index-end.result.now)) (sym c.as_slice-2.ensures.value) (sym c.as_slice-3.ensures.value)
-    ∙ ap Some (sym c.cells_between.ensures)
+    let masks = c.self.inside.masks.items in
+    let values = c.self.inside.values.items in
+    let n = c.args.number in
+    let many : length c.args.self.now.cells ≡ length masks = ap (λ (v : RoomyCells). length v.cells) (sym c.self.view_is) ∙ length-groups masks values in
+    let within : n < length masks = omega (arith, many, c.requires) in
+    let mask : c.index.result.now ≡ get_or masks n 0 = c.index.ensures ∙ get_or_default_zero masks n c.index.result.now within in
+    let start : c.values_before-start.result ≡ ones_in (take n masks) = c.values_before-start.ensures ∙ ap (λ ms. ones_in (take n ms)) c.as_slice.ensures.value in
+    ap (λ (v : RoomyCells). slice_get v.cells n) (sym c.self.view_is)
+    ∙ groups_get masks values n within
+    ∙ ap₂ (λ m k. Some (group_of m (drop k values))) (sym mask) (sym start)
+    ∙ ap (λ vs. Some (group_of c.index.result.now (drop c.values_before-start.result vs))) (sym c.as_slice-3.ensures.value)
+    ∙ ap Some (sym c.group_at.ensures)

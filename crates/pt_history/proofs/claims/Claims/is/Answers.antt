@@ -16,8 +16,8 @@ is-requires c =
     let lists : length c.args.self.now.tasks ≡ length c.self.inside.marks.items = ap (λ (v : RoomyTasks). length v.tasks) (sym c.self.view_is) ∙ length-tasks c.self.inside.marks.items c.self.inside.cells.cells c.self.invariant.0 in
     omega (arith, lists, c.requires, c.self.invariant.0)
 
-pub returns-then-same_mark : goal.returns-then-same_mark
-returns-then-same_mark c = λ same.
+pub returns-then-same_mark-clause-same : goal.returns-then-same_mark-clause-same
+returns-then-same_mark-clause-same c = λ same.
     let lists : length c.args.self.now.tasks ≡ length c.self.inside.marks.items = ap (λ (v : RoomyTasks). length v.tasks) (sym c.self.view_is) ∙ length-tasks c.self.inside.marks.items c.self.inside.cells.cells c.self.invariant.0 in
     let inside : c.args.number < length c.self.inside.marks.items = omega (arith, lists, c.requires) in
     let mark : c.at.result ≡ mark_of c.args.task.now = c.same_mark.ensures c.if-same_mark.true ∙ c.mark_of.ensures in

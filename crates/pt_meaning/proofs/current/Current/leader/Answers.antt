@@ -1,6 +1,6 @@
 use Rattle.std.proofs.Common.{◌≡◌, ◌∙◌, None, MatchOption, sym, subst}
 use Rattle.pt_causality.proofs.Members.{same_default}
-use Rattle.pt_meaning.specs.declared.place.Place.{Place}
+use Rattle.pt_meaning.specs.declared.place.EventPlace.{EventPlace}
 use Rattle.pt_meaning.specs.Current.{current_value, Slate}
 use Rattle.pt_meaning.specs.ComesFirst.{ComesFirst}
 use Rattle.pt_meaning.proofs.Currents.{no_values, leads, within}
@@ -9,8 +9,8 @@ use Rattle.pt_meaning.proofs.current.Current.leader.Goals as goal
 pub returns-in_err-position : goal.returns-in_err-position
 returns-in_err-position c =
     let none = no_values c.self.inside.tag c.self.inside.order.items c.self.inside.positions.items c.self.inside.inputs c.in_err-position.ensures in
-    subst (λ r. MatchOption r ((q : Place) → current_value c.args.self.now q ≡ None) (ComesFirst (current_value c.args.self.now))) (sym c.from_residual.ensures)
-    (subst (λ (s : Slate). (q : Place) → current_value s q ≡ None) c.self.view_is none)
+    subst (λ r. MatchOption r ((q : EventPlace) → current_value c.args.self.now q ≡ None) (ComesFirst (current_value c.args.self.now))) (sym c.from_residual.ensures)
+    (subst (λ (s : Slate). (q : EventPlace) → current_value s q ≡ None) c.self.view_is none)
 
 pub returns : goal.returns
 returns c =

@@ -1,6 +1,6 @@
 use Rattle.std.proofs.Common.{◌≡◌, ◌<◌, ◌≤◌, ◌-◌, ◌∙◌, sym, ap, subst, length, rules, slice_get, slice_index_or, take, drop}
 use Rattle.std.proofs.lemmas.List.{get_or_default}
-use Rattle.pt_meaning.specs.declared.firings.Mark.{Mark}
+use Rattle.pt_meaning.specs.declared.firings.FiringEntry.{FiringEntry}
 use Rattle.pt_meaning.specs.Flat.{with_cells, firing_from, empty_cells, no_tag}
 use Rattle.pt_meaning.specs.Marks.{values_start_at}
 use Rattle.pt_meaning.proofs.Lists.{read_at, get_past, within_at, no_mark}
@@ -18,7 +18,7 @@ cells_between-cells-requires-clause-places c =
     let within : c.args.number < length c.self.inside.marks.items = search rules in
     let low = within_at (length f.tags.items) (length f.places.items) f.marks.items c.args.number no_mark within c.self.invariant.within in
     let is = c.index-mark.ensures ∙ get_or_default f.marks.items c.args.number c.index-mark.result.now no_mark within in
-    let ends : c.index-mark.result.now.end ≤ length c.self.inside.places.items = subst (λ (m : Mark). m.end ≤ length c.self.inside.places.items) (sym is) low in
+    let ends : c.index-mark.result.now.end ≤ length c.self.inside.places.items = subst (λ (m : FiringEntry). m.end ≤ length c.self.inside.places.items) (sym is) low in
     search (rules, ends)
 
 pub cells_between-cells-requires-clause-values : goal.cells_between-cells-requires-clause-values
@@ -27,7 +27,7 @@ cells_between-cells-requires-clause-values c =
     let within : c.args.number < length c.self.inside.marks.items = search rules in
     let low = within_at (length f.tags.items) (length f.places.items) f.marks.items c.args.number no_mark within c.self.invariant.within in
     let is = c.index-mark.ensures ∙ get_or_default f.marks.items c.args.number c.index-mark.result.now no_mark within in
-    let ends : c.index-mark.result.now.end ≤ length c.self.inside.places.items = subst (λ (m : Mark). m.end ≤ length c.self.inside.places.items) (sym is) low in
+    let ends : c.index-mark.result.now.end ≤ length c.self.inside.places.items = subst (λ (m : FiringEntry). m.end ≤ length c.self.inside.places.items) (sym is) low in
     let same : length c.self.inside.places.items ≡ length c.self.inside.values.items = c.self.invariant.same in
     search (rules, ends, same)
 

@@ -1,5 +1,5 @@
 use Rattle.std.proofs.Common.{◌≡◌, ◌∙◌, ap, length, rules, ◌++◌, ◌∷◌, [], refl}
-use Rattle.pt_meaning.specs.declared.firings.Mark.{Mark}
+use Rattle.pt_meaning.specs.declared.firings.FiringEntry.{FiringEntry}
 use Rattle.pt_meaning.specs.Flat.{cells_of_firing, cell_numbers_from, cell_values, StandsAt}
 use Rattle.pt_meaning.proofs.Lists.{joins, stays_whole}
 use Rattle.pt_meaning.proofs.firings.Firings.with.Goals as goal
@@ -7,7 +7,7 @@ use Rattle.pt_meaning.proofs.firings.Firings.with.Goals as goal
 pub invariant_of-result : goal.invariant_of-result
 invariant_of-result c =
     let f = c.self.inside in let x = c.args.firing.now in
-    let mark : Mark = record { actor = x.actor; moment = c.in_ok-moment.moment; end = c.in_ok-end.end } in
+    let mark : FiringEntry = record { actor = x.actor; moment = c.in_ok-moment.moment; end = c.in_ok-end.end } in
     let stands : StandsAt c.in_ok-moment.moment c.args.firing.now.tag c.self.inside.tags.items c.moment_of.new.tags.items = search rules in
     let places : c.push_firing.new.places.items ≡ c.self.inside.places.items ++ cell_numbers_from 0 (cells_of_firing c.args.firing.now) = c.in_ok-push_firing.ensures.places in
     let values : c.push_firing.new.values.items ≡ c.self.inside.values.items ++ cell_values (cells_of_firing c.args.firing.now) = c.in_ok-push_firing.ensures.values in
@@ -18,7 +18,7 @@ invariant_of-result c =
 pub returns : goal.returns
 returns c =
     let f = c.self.inside in let x = c.args.firing.now in
-    let mark : Mark = record { actor = x.actor; moment = c.in_ok-moment.moment; end = c.in_ok-end.end } in
+    let mark : FiringEntry = record { actor = x.actor; moment = c.in_ok-moment.moment; end = c.in_ok-end.end } in
     let stands : StandsAt c.in_ok-moment.moment c.args.firing.now.tag c.self.inside.tags.items c.moment_of.new.tags.items = search rules in
     let places : c.push_firing.new.places.items ≡ c.self.inside.places.items ++ cell_numbers_from 0 (cells_of_firing c.args.firing.now) = c.in_ok-push_firing.ensures.places in
     let values : c.push_firing.new.values.items ≡ c.self.inside.values.items ++ cell_values (cells_of_firing c.args.firing.now) = c.in_ok-push_firing.ensures.values in

@@ -2,7 +2,7 @@ use Rattle.std.proofs.Common.{◌≡◌, ⊎_elim, true, sym, subst}
 use Rattle.std.proofs.lemmas.Option.{IfSome_then}
 use Rattle.pt_semantics.specs.Firing.{any_present}
 use Rattle.pt_semantics.specs.Meaning.{Values, IsFirst, waiting, added}
-use Rattle.pt_meaning.specs.declared.place.Place.{Place}
+use Rattle.pt_meaning.specs.declared.place.EventPlace.{EventPlace}
 use Rattle.pt_meaning.specs.Waiting.{waits_in, IsPlaceIn}
 use Rattle.pt_meaning.specs.Current.{current_value}
 use Rattle.pt_meaning.specs.Held.{pending_value}
@@ -48,8 +48,8 @@ returns-clause-first c = λ rank actors steps sound.
     let near = c.in-Some.ensures.within rank actors steps one in
     let far = c.in-Some-first.ensures.within rank actors steps two in
     let ranked : c.sooner.result.rank ≡ rank c.sooner.result.actor =
-    ⊎_elim (λ (e : c.sooner.result ≡ c.in-Some.pending). subst (λ (x : Place). x.rank ≡ rank x.actor) (sym e) near.rank_is)
-    (λ (e : c.sooner.result ≡ c.in-Some-first.current). subst (λ (x : Place). x.rank ≡ rank x.actor) (sym e) far.rank_is) c.sooner.ensures.one in
+    ⊎_elim (λ (e : c.sooner.result ≡ c.in-Some.pending). subst (λ (x : EventPlace). x.rank ≡ rank x.actor) (sym e) near.rank_is)
+    (λ (e : c.sooner.result ≡ c.in-Some-first.current). subst (λ (x : EventPlace). x.rank ≡ rank x.actor) (sym e) far.rank_is) c.sooner.ensures.one in
     first_of_both rank (waits_in rank (pending_value c.args.self.now.pending)) (waits_in rank (current_value c.args.self.now.current)) c.sooner.result c.in-Some.pending c.in-Some-first.current ranked near.rank_is far.rank_is
     c.sooner.ensures.first.0 c.sooner.ensures.first.1 (c.in-Some.ensures.first rank actors steps one) (c.in-Some-first.ensures.first rank actors steps two)
 
@@ -57,9 +57,9 @@ pub returns-clause-present : goal.returns-clause-present
 returns-clause-present c = λ rank actors steps sound.
     let n = waits_in rank (pending_value c.args.self.now.pending) in let f = waits_in rank (current_value c.args.self.now.current) in
     ⊎_elim
-    (λ (is : c.sooner.result ≡ c.in-Some.pending). subst (λ (x : Place). any_present (waiting (added n f) x.actor x.tag) ≡ true) (sym is)
+    (λ (is : c.sooner.result ≡ c.in-Some.pending). subst (λ (x : EventPlace). any_present (waiting (added n f) x.actor x.tag) ≡ true) (sym is)
     (present_early n f c.in-Some.pending.actor c.in-Some.pending.tag (c.in-Some.ensures.present rank actors steps (sound_near (pending_value c.args.self.now.pending) (current_value c.args.self.now.current) rank actors steps sound))))
-    (λ (is : c.sooner.result ≡ c.in-Some-first.current). subst (λ (x : Place). any_present (waiting (added n f) x.actor x.tag) ≡ true) (sym is)
+    (λ (is : c.sooner.result ≡ c.in-Some-first.current). subst (λ (x : EventPlace). any_present (waiting (added n f) x.actor x.tag) ≡ true) (sym is)
     (present_late n f c.in-Some-first.current.actor c.in-Some-first.current.tag (c.in-Some-first.ensures.present rank actors steps (sound_far (pending_value c.args.self.now.pending) (current_value c.args.self.now.current) rank actors steps sound))))
     c.sooner.ensures.one
 

@@ -3,7 +3,7 @@ use Rattle.std.specs.BTreeMap as tree
 use Rattle.pt_semantics.specs.Firing.{any_present}
 use Rattle.pt_semantics.specs.Lists.{or_else}
 use Rattle.pt_semantics.specs.Meaning.{Values, IsFirst, waiting, added}
-use Rattle.pt_meaning.specs.declared.place.Place.{Place}
+use Rattle.pt_meaning.specs.declared.place.EventPlace.{EventPlace}
 use Rattle.pt_meaning.specs.Line.{in_line}
 use Rattle.pt_meaning.specs.Waiting.{place_cmp, place_of, waits_in, IsPlaceIn}
 use Rattle.pt_meaning.proofs.Both.{first_of_both, only_late, only_early, present_early, present_late}
@@ -59,8 +59,8 @@ returns-clause-first c = λ rank actors steps sound.
     let near = within_near n f rank actors steps c.in-Some.near c.in-Some.ensures sound in
     let far = within_far n f rank actors steps c.in-Some-first.far c.in-Some-first.ensures sound in
     let ranked : c.sooner.result.rank ≡ rank c.sooner.result.actor =
-    ⊎_elim (λ (e : c.sooner.result ≡ c.in-Some.near). subst (λ (x : Place). x.rank ≡ rank x.actor) (sym e) near.rank_is)
-    (λ (e : c.sooner.result ≡ c.in-Some-first.far). subst (λ (x : Place). x.rank ≡ rank x.actor) (sym e) far.rank_is) c.sooner.ensures.one in
+    ⊎_elim (λ (e : c.sooner.result ≡ c.in-Some.near). subst (λ (x : EventPlace). x.rank ≡ rank x.actor) (sym e) near.rank_is)
+    (λ (e : c.sooner.result ≡ c.in-Some-first.far). subst (λ (x : EventPlace). x.rank ≡ rank x.actor) (sym e) far.rank_is) c.sooner.ensures.one in
     first_of_both rank (waits_in rank n) (waits_in rank f) c.sooner.result c.in-Some.near c.in-Some-first.far ranked near.rank_is far.rank_is
     c.sooner.ensures.first.0 c.sooner.ensures.first.1 (least_first rank actors steps n c.in-Some.near c.in-Some.ensures (sound_near n f rank actors steps sound)) (least_first rank actors steps f c.in-Some-first.far c.in-Some-first.ensures (sound_far n f rank actors steps sound))
 
@@ -68,9 +68,9 @@ pub returns-clause-present : goal.returns-clause-present
 returns-clause-present c = λ rank actors steps sound.
     let n = in_line place_cmp c.args.self.now.line in let f = tree.get place_cmp c.args.self.now.later.events in
     ⊎_elim
-    (λ (is : c.sooner.result ≡ c.in-Some.near). subst (λ (x : Place). any_present (waiting (added (waits_in rank n) (waits_in rank f)) x.actor x.tag) ≡ true) (sym is)
+    (λ (is : c.sooner.result ≡ c.in-Some.near). subst (λ (x : EventPlace). any_present (waiting (added (waits_in rank n) (waits_in rank f)) x.actor x.tag) ≡ true) (sym is)
     (present_early (waits_in rank n) (waits_in rank f) c.in-Some.near.actor c.in-Some.near.tag (least_present rank actors steps n c.in-Some.near c.in-Some.ensures (sound_near n f rank actors steps sound))))
-    (λ (is : c.sooner.result ≡ c.in-Some-first.far). subst (λ (x : Place). any_present (waiting (added (waits_in rank n) (waits_in rank f)) x.actor x.tag) ≡ true) (sym is)
+    (λ (is : c.sooner.result ≡ c.in-Some-first.far). subst (λ (x : EventPlace). any_present (waiting (added (waits_in rank n) (waits_in rank f)) x.actor x.tag) ≡ true) (sym is)
     (present_late (waits_in rank n) (waits_in rank f) c.in-Some-first.far.actor c.in-Some-first.far.tag (least_present rank actors steps f c.in-Some-first.far c.in-Some-first.ensures (sound_far n f rank actors steps sound))))
     c.sooner.ensures.one
 

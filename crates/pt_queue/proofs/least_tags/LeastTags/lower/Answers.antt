@@ -1,6 +1,6 @@
 use Rattle.std.proofs.Common.{◌≡◌, Bool, true, false, Option, if◌then◌else◌, refl, sym, ap, ◌∙◌}
 use Rattle.pt_tags.specs.declared.tag.Tag.{Tag}
-use Rattle.pt_types.specs.declared.graph.Unit.{Unit as Part}
+use Rattle.pt_types.specs.declared.graph.Unit.{Unit}
 use Rattle.pt_semantics.specs.Units.{same_part}
 use Rattle.pt_semantics.proofs.Lookups.{same_part-true}
 use Rattle.pt_queue.specs.Tagged.{tag_in}
@@ -8,7 +8,7 @@ use Rattle.pt_queue.specs.Scans.{sooner}
 use Rattle.pt_queue.proofs.least_tags.LeastTags.lower.Goals as goal
 
 -- where the tag of a unit stays, all stay
-all_stay : (tags : Part → Option Tag) (u x : Part) (t : Tag) → sooner (tags u) t ≡ tags u → tags x ≡ (if same_part u x then sooner (tags u) t else tags x)
+all_stay : (tags : Unit → Option Tag) (u x : Unit) (t : Tag) → sooner (tags u) t ≡ tags u → tags x ≡ (if same_part u x then sooner (tags u) t else tags x)
 all_stay tags u x t stays = by (same_part u x) refl
   where
     by : (b : Bool) → same_part u x ≡ b → tags x ≡ (if b then sooner (tags u) t else tags x)

@@ -6,13 +6,12 @@ use Rattle.pt_semantics.specs.Rows.{FitRows}
 use Rattle.pt_semantics.specs.Turn.{Turn}
 use Rattle.pt_causality.specs.Ranked.{level_of}
 use Rattle.pt_offsets.specs.Plans.{IsAdmitted, Parts}
-use Rattle.pt_state.specs.Sensors.{AreSensors}
-use Rattle.pt_state.specs.State.{rows_at_sensors, state_of, IsSound}
+use Rattle.pt_turn.specs.Fields.Sensors.{AreSensors}
+use Rattle.pt_turn.specs.Fields.State.{rows_at_sensors, state_of, IsSound}
 use Rattle.pt_turn.specs.Platforms.{messages_of}
 use Rattle.pt_turn.specs.Running.{Ran}
 use Rattle.pt_turn.proofs.Rooms.{no_room}
 use Rattle.pt_turn.proofs.platform.Platform.open.Goals as goal
-use Rattle.pt_types.specs.Limits.{most_claims}
 
 pub invariant_of-result : goal.invariant_of-result
 invariant_of-result c =
@@ -28,7 +27,7 @@ invariant_of-result c =
       sensors = subst (λ (z : Parts). AreSensors z.graph f.sensors.items) plan e.sensors;
       fit = subst (λ (z : Parts). FitRows z.graph (rows_at_sensors f.sensors.items)) plan e.fit;
       closing = subst (λ (z : Parts). IsClosing z.graph c.args.platform c.closing_reading-closing.result) c.deref-2.ensures c.closing_reading-closing.ensures;
-      claims = subst (λ n. n ≤ most_claims) (sym e.claims) (omega arith);
+      claims = subst (λ n. n ≤ (arc_value c.args.plan).graph.claims) (sym e.claims) (omega arith);
       ran = subst (λ (ts : List Turn). Ran (arc_value c.args.plan).graph (level_of (arc_value c.args.plan).ranks) c.args.platform (rows_at_sensors f.sensors.items) ts (state_of f (messages_of ts)) None) (sym turns) (record {
         all = [];
         single = tt;

@@ -1,6 +1,6 @@
 use Rattle.std.proofs.Common.{◌≡◌, ◌≤◌, [], length, sym, ap, subst, ◌∙◌, arith}
 use Rattle.pt_semantics.specs.Entering.{all_due}
-use Rattle.pt_state.specs.State.{left_in}
+use Rattle.pt_turn.specs.Fields.State.{left_in}
 use Rattle.pt_turn.specs.declared.platform.Platform.TheInside.{Inside}
 use Rattle.pt_turn.specs.Platforms.{PlatformView, platform_graph, raised_to}
 use Rattle.pt_turn.proofs.NoRows.{none_due}

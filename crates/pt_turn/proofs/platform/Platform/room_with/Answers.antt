@@ -1,6 +1,6 @@
 use Rattle.std.proofs.Common.{◌≤◌, Option, length, subst, sym}
 use Rattle.pt_semantics.specs.Entering.{all_due}
-use Rattle.pt_state.specs.State.{left_in}
+use Rattle.pt_turn.specs.Fields.State.{left_in}
 use Rattle.pt_turn.specs.Steps.{count_due}
 use Rattle.pt_offsets.specs.Plans.{Parts}
 use Rattle.pt_turn.specs.declared.platform.Platform.TheInside.{Inside}

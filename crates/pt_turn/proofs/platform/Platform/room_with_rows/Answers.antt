@@ -2,8 +2,8 @@ use Rattle.std.proofs.Common.{◌≡◌, ◌≤◌, List, length, ap, subst, ◌
 use Rattle.pt_types.specs.declared.graph.Graph.{Graph}
 use Rattle.pt_semantics.specs.Entering.{all_due}
 use Rattle.pt_offsets.specs.Plans.{Parts}
-use Rattle.pt_state.specs.declared.fields.Sensor.{Sensor}
-use Rattle.pt_state.specs.State.{left_in}
+use Rattle.pt_turn.specs.declared.state.fields.Sensor.{Sensor}
+use Rattle.pt_turn.specs.Fields.State.{left_in}
 use Rattle.pt_turn.specs.declared.platform.Platform.TheInside.{Inside}
 use Rattle.pt_turn.specs.Platforms.{PlatformView, platform_graph, raised_to}
 use Rattle.pt_turn.proofs.platform.Platform.room_with_rows.Goals as goal

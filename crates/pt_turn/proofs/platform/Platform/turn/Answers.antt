@@ -3,8 +3,8 @@ use Rattle.std.specs.Prelude.{MatchOption}
 use Rattle.std.specs.Arc.{arc_value}
 use Rattle.pt_causality.specs.Ranked.{level_of}
 use Rattle.pt_offsets.specs.Plans.{Parts}
-use Rattle.pt_post.specs.Posted.{AreDone}
-use Rattle.pt_state.specs.State.{left_in}
+use Rattle.pt_turn.specs.Posts.Posted.{AreDone}
+use Rattle.pt_turn.specs.Fields.State.{left_in}
 use Rattle.pt_turn.specs.Steps.{NoneSeenBefore}
 use Rattle.pt_turn.specs.declared.room.Room.{Room}
 use Rattle.pt_turn.specs.declared.platform.Platform.TheInside.{Inside}

@@ -1,6 +1,0 @@
-mod Moments
-mod Opening
-mod Passes
-mod Runs
-mod Showing
-mod Steps

@@ -1,6 +1,0 @@
-use Rattle.std.proofs.Common.{◌≡◌, replicate}
-use Rattle.pt_airways.specs.Arrivals.{empty_airway}
-use Rattle.pt_aired.proofs.starting.airways.Given as goal
-
-abbrev pub invariant-loop : goal.invariant-loop
-invariant-loop l = l.airways.items ≡ replicate l.counter empty_airway

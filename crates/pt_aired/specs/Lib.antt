@@ -1,4 +1,0 @@
-pub mod Asked
-pub mod HaveFlown
-pub mod InFlight
-pub mod Passing

@@ -1,4 +1,0 @@
-pub mod Counting
-pub mod OneVisit
-pub mod Starting
-pub mod Steps

@@ -1,0 +1,13 @@
+pub mod OneTurn
+pub mod Tidy
+pub mod Orders
+pub mod Results
+pub mod Parts
+pub mod Histories
+pub mod Came
+pub mod Fires
+pub mod Sends
+pub mod Counts
+pub mod Logged
+pub mod Passes
+pub mod Turns

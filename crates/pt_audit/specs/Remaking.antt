@@ -1,0 +1,4 @@
+pub mod Following
+pub mod Lasts
+pub mod Remade
+pub mod Steps

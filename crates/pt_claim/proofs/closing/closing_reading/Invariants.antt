@@ -1,5 +1,0 @@
-use Rattle.pt_claim.proofs.Bounds.{Closes}
-use Rattle.pt_claim.proofs.closing.closing_reading.Given as goal
-
-abbrev pub invariant-loop-number : goal.invariant-loop-number
-invariant-loop-number l = Closes l.plan.graph l.platform l.number l.closing

@@ -1,7 +1,0 @@
-use Rattle.std.proofs.Common.{◌++◌, ap, ◌∙◌}
-use Rattle.pt_semantics.specs.Closing.{on_link}
-use Rattle.pt_close.proofs.Ending.{end_one}
-use Rattle.pt_close.proofs.ends.end_on.Goals as goal
-
-pub returns-clause-ends : goal.returns-clause-ends
-returns-clause-ends c = λ k. c.push_reserved.ensures.messages k ∙ ap (λ ms. on_link k c.args.outbox.now.items ++ ms) (end_one k c.args.link c.args.from c.args.number c.if-from-number.false)

@@ -1,7 +1,0 @@
-pub mod Lists
-mod Laying
-mod Matching
-pub mod Returning
-mod Apart
-mod Whole
-pub mod Numbered

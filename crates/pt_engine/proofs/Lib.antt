@@ -1,0 +1,10 @@
+pub mod Changed
+pub mod Faults
+pub mod First
+pub mod Listed
+pub mod Opening
+pub mod Piping
+pub mod Showing
+pub mod Views
+pub mod Passing
+pub mod MoreShown

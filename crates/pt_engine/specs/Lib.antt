@@ -1,0 +1,5 @@
+pub mod Asked
+pub mod Shown
+pub mod Showing
+pub mod MoreShown
+pub mod Outcome

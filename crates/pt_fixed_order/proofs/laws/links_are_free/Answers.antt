@@ -1,5 +1,0 @@
-use Rattle.pt_fixed_order.proofs.Going.{links_are_free}
-use Rattle.pt_fixed_order.proofs.laws.links_are_free.Goals as goal
-
-pub returns : goal.returns
-returns c = links_are_free

@@ -1,5 +1,0 @@
-use Rattle.pt_fixed_order.proofs.Going.{links_stay_free}
-use Rattle.pt_fixed_order.proofs.laws.links_stay_free.Goals as goal
-
-pub returns : goal.returns
-returns c = links_stay_free

@@ -1,5 +1,0 @@
-use Rattle.pt_fixed_order.proofs.Linking.{matched_is_linked}
-use Rattle.pt_fixed_order.proofs.laws.matched_is_linked.Goals as goal
-
-pub returns : goal.returns
-returns c = matched_is_linked

@@ -1,5 +1,0 @@
-use Rattle.pt_fixed_order.proofs.Going.{visits_end}
-use Rattle.pt_fixed_order.proofs.laws.visits_end.Goals as goal
-
-pub returns : goal.returns
-returns c = visits_end

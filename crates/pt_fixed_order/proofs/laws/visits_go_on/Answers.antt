@@ -1,5 +1,0 @@
-use Rattle.pt_fixed_order.proofs.Going.{visits_go_on}
-use Rattle.pt_fixed_order.proofs.laws.visits_go_on.Goals as goal
-
-pub returns : goal.returns
-returns c = visits_go_on

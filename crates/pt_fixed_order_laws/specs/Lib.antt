@@ -1,0 +1,5 @@
+pub mod Going
+pub mod Linking
+pub mod Whole
+pub mod Fronts
+pub mod Sound

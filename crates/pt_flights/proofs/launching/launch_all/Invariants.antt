@@ -1,9 +1,0 @@
-use Rattle.std.proofs.Common.{◌≡◌, false}
-use Rattle.pt_flights.proofs.Moving.{PutsTo}
-use Rattle.pt_flights.proofs.launching.launch_all.Given as goal
-
-abbrev pub invariant-loop-l : goal.invariant-loop-l
-invariant-loop-l l = record {
-  puts : PutsTo l.air l.graph l.now l.l l.initial.airways l.airways l.initial.pipes l.pipes;
-  none : l.launched ≡ false → l.airways ≡ l.initial.airways;
-}

@@ -1,3 +1,0 @@
-pub mod Skies
-pub mod Flights
-pub mod Moments

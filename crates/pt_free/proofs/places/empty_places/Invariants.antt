@@ -1,5 +1,0 @@
-use Rattle.std.proofs.Common.{◌≡◌, vec_len, vec_capacity}
-use Rattle.pt_free.proofs.places.empty_places.Given as goal
-
-abbrev pub invariant-loop-k : goal.invariant-loop-k
-invariant-loop-k g l = (vec_len l.places ≡ l._k) × (vec_capacity l.places ≡ l.count)

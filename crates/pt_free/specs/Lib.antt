@@ -1,3 +1,0 @@
-pub mod Helpers
-pub mod Orders
-pub mod Surveys

@@ -1,6 +1,0 @@
-use Rattle.std.proofs.Common.{◌≡◌, ℕ, ◌<◌, slice_get}
-use Rattle.pt_tables.specs.Names.{receiver_name}
-use Rattle.pt_hints.proofs.names.link_to.Given as goal
-
-abbrev pub invariant-loop-number : goal.invariant-loop-number
-invariant-loop-number l = (k : ℕ) → k < l.number → receiver_name l.graph (slice_get l.graph.links k) ≡ l.name → ⊥

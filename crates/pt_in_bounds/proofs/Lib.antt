@@ -1,5 +1,0 @@
-pub mod AsPaced
-pub mod Flights
-pub mod Replays
-pub mod Rounds
-pub mod Ways

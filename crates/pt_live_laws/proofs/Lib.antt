@@ -1,0 +1,6 @@
+pub mod Between
+pub mod Growth
+pub mod Home
+pub mod Joining
+pub mod Meant
+pub mod Written

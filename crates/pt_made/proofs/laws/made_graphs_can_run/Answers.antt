@@ -1,5 +1,0 @@
-use Rattle.pt_made.proofs.Shape.{feasible, lawful, no_cycle}
-use Rattle.pt_made.proofs.laws.made_graphs_can_run.Goals as goal
-
-pub returns : goal.returns
-returns c = λ n few. (lawful n few, no_cycle n, feasible n)

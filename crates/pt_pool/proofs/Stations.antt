@@ -1,0 +1,3 @@
+pub mod Collects
+pub mod Places
+pub mod Stations

@@ -1,0 +1,7 @@
+mod Moments
+mod Opening
+mod Passes
+mod Runs
+mod Showing
+mod Steps
+pub mod Visits

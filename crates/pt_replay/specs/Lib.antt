@@ -1,0 +1,4 @@
+pub mod Visits
+pub mod Outcome
+pub mod Shown
+pub mod Passing

@@ -1,0 +1,14 @@
+pub mod Calm
+pub mod Closing
+pub mod Ended
+pub mod Ending
+pub mod Falling
+pub mod InBounds
+pub mod OneReplay
+pub mod Quiet
+pub mod Replays
+pub mod Sound
+pub mod Times
+pub mod Twice
+pub mod Ways
+pub mod Arriving

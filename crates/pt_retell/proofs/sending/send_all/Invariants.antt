@@ -1,6 +1,0 @@
-use Rattle.std.proofs.Common.{take}
-use Rattle.pt_retell.proofs.Sends.{SendsOn}
-use Rattle.pt_retell.proofs.sending.send_all.Given as goal
-
-abbrev pub invariant-loop-message : goal.invariant-loop-message
-invariant-loop-message l = SendsOn l.initial.platform l.platform (take l.message-index l.messages) l.counts

@@ -1,4 +1,0 @@
-pub mod Following
-pub mod Lasts
-pub mod Retold
-pub mod Steps

@@ -1,0 +1,279 @@
+//! The outputs of a call: those of a run are made of its platforms, and put; and every text is put in blocks of whole lines, a log as
+//! it is made, the lines of misses at once.
+
+ghost use Rattle.std.specs.Prelude.{◌≡◌, ◌≢◌, ◌<◌, ◌≤◌, ◌++◌, IfErr, IfOk, None, OnErr, OnOk, flat_map, is_some, length, string_bytes};
+ghost use Rattle.std.specs.Arc.{arc_value};
+ghost use Rattle.pt_io.specs.Calls.{writing};
+ghost use Rattle.pt_io.specs.Causes.{Appends, AppendsPart, Rose};
+ghost use Rattle.pt_tables.specs.Misses.{miss_line};
+ghost use Rattle.pt_run.specs.Reporting.{Reports};
+ghost use Rattle.pt_run.specs.Runs.{AreHeldIf, AreOutputs, IsOutput, IsStop, paged_log};
+ghost use Rattle.pt_run.specs.Statuses.{status_of};
+ghost use Rattle.pt_run.specs.Texts.{HasEnded, LeftAll, WroteRun};
+
+use crate::fault::{Fault, fault_of_turn};
+use crate::notes::{report, report_write};
+use crate::outcome::{Ending, Stopped};
+use memchr::memrchr;
+use pt_confluence::tables_of;
+use pt_engine::Rounds;
+use pt_history::Miss;
+use pt_io::{PutFault, Sink};
+use pt_monitors::missed;
+use pt_offsets::Plan;
+use pt_tables::{LogPage, miss_lines, platforms_hold, put_log};
+use pt_tags::Memory;
+use pt_turn::Platform;
+use pt_types::Graph;
+use std::alloc::Global;
+use std::sync::Arc;
+
+/// The most bytes that are put at once: as many as the buffer of the standard output holds.
+const MOST_AT_ONCE: usize = 65_536;
+
+/// The outputs of a run that finished: the parts of its text, its misses and their lines, and its platforms.
+#[derive(Drop)]
+pub struct Outputs {
+    /// The tables of the actuators.
+    pub tables: String,
+    /// A page for the log, if it is asked for.
+    pub log: Option<LogPage>,
+    pub misses: Vec<Miss>,
+    /// A line for each miss.
+    pub lines: String,
+    pub platforms: Vec<Platform>,
+}
+
+/// A page for the log of platforms, if it is asked for.
+fn page_if(alloc: Global, platforms: &[Platform], log: bool) -> Result<Option<LogPage>, Memory>
+    ensures asked { IfOk result (λ page. is_some page ≡ log) }
+    ensures held { OnOk result (AreHeldIf log platforms.now) }
+{
+    if !log {
+        return Ok(None);
+    }
+    platforms_hold(platforms);
+    let page = LogPage::new(alloc)?;
+    Ok(Some(page))
+}
+
+/// The lines of misses.
+fn lines_of(alloc: Global, plan: &Plan, misses: &[Miss]) -> Result<String, Memory>
+    ensures { IfOk result
+        (λ lines. string_bytes lines ≡ flat_map (miss_line plan.now.graph) misses.now) }
+{
+    let mut lines = String::new(alloc);
+    miss_lines(&mut lines, plan.graph(), misses)?;
+    Ok(lines)
+}
+
+/// The outputs of platforms after a run, or why it stopped. In a replay `breach` is the first row of its recording that breaks a
+/// stated bound.
+pub fn outputs_of(
+    alloc: Global,
+    plan: &Arc<Plan>,
+    rounds: Rounds,
+    log: bool,
+    breach: Option<u32>,
+) -> Result<Outputs, Stopped>
+    ensures output { IfOk result
+        (IsOutput rounds.fault (arc_value plan.now) log rounds.platforms.items) }
+    ensures stop { IfErr result (IsStop breach rounds.fault rounds.platforms.items) }
+{
+    let Rounds { platforms, fault } = rounds;
+    if let Some((platform, fault)) = fault {
+        let fault = fault_of_turn(platform, breach, fault);
+        return Err(Stopped { fault, platforms });
+    }
+    match all_outputs(alloc, plan, platforms, log) {
+        Ok(outputs) => Ok(outputs),
+        Err(Memory) => Err(Stopped::with_nothing(alloc, Fault::Memory)),
+    }
+}
+
+/// All outputs of finished platforms.
+fn all_outputs(
+    alloc: Global,
+    plan: &Arc<Plan>,
+    platforms: Vec<Platform>,
+    log: bool,
+) -> Result<Outputs, Memory>
+    ensures { IfOk result (AreOutputs (arc_value plan.now) log platforms.items) }
+{
+    let tables = tables_of(alloc, plan, platforms.as_slice())?;
+    let log = page_if(alloc, platforms.as_slice(), log)?;
+    let misses = missed(alloc, platforms.as_slice())?;
+    let lines = lines_of(alloc, plan, misses.as_slice())?;
+    Ok(Outputs {
+        tables,
+        log,
+        misses,
+        lines,
+        platforms,
+    })
+}
+
+/// Writes the outputs of a run, or reports why it did not finish.
+pub fn end_run<K: Sink, E: Sink>(
+    alloc: Global,
+    graph: &Graph,
+    ran: Result<Outputs, Stopped>,
+    out: &mut K,
+    notes: &mut E,
+) -> Ending
+    ensures status { result.status ≡ status_of result.fault result.misses }
+    ensures ended { HasEnded ran result (writing K.Sink out.old out.new) }
+    ensures flushed { result.fault ≡ None → K.flushed out.new }
+    ensures notes { IfOk ran
+        (λ ran. string_bytes ran.lines ≡ flat_map (miss_line graph.now) ran.misses.items) →
+        Reports result.fault result.misses (Some graph.now)
+        (writing E.Sink notes.old notes.new) }
+{
+    match ran {
+        Ok(outputs) => write_run(alloc, graph, outputs, out, notes),
+        Err(Stopped { fault, platforms }) => leave(alloc, graph, fault, platforms, notes),
+    }
+}
+
+/// Puts the text of a run on `out`, and the lines of its misses on `notes`.
+fn write_run<K: Sink, E: Sink>(
+    alloc: Global,
+    graph: &Graph,
+    ran: Outputs,
+    out: &mut K,
+    notes: &mut E,
+) -> Ending
+    ensures status { result.status ≡ status_of result.fault result.misses }
+    ensures wrote { WroteRun ran result (writing K.Sink out.old out.new) }
+    ensures flushed { result.fault ≡ None → K.flushed out.new }
+    ensures notes { string_bytes ran.lines ≡ flat_map (miss_line graph.now) ran.misses.items →
+        Reports result.fault result.misses (Some graph.now)
+        (writing E.Sink notes.old notes.new) }
+{
+    let Outputs {
+        tables,
+        log,
+        misses,
+        lines,
+        platforms,
+    } = ran;
+    if put_run(out, tables.as_str().as_bytes(), log, platforms.as_slice()).is_err() {
+        report_write(notes);
+        return Ending::stopped(alloc, Fault::Write, platforms);
+    }
+    let _ = put_whole(notes, lines.as_str().as_bytes());
+    Ending::done(misses, platforms)
+}
+
+/// Reports a fault that leaves these platforms, if there is memory for its line.
+fn leave<E: Sink>(
+    alloc: Global,
+    graph: &Graph,
+    fault: Fault,
+    platforms: Vec<Platform>,
+    notes: &mut E,
+) -> Ending
+    ensures status { result.status ≡ status_of result.fault result.misses }
+    ensures left { LeftAll fault platforms.items result }
+    ensures fault { result.fault ≢ None }
+    ensures notes { Reports result.fault result.misses (Some graph.now)
+        (writing E.Sink notes.old notes.new) }
+{
+    match report(alloc, notes, fault, Some(graph)) {
+        Fault::Memory => Ending::refused(alloc, Fault::Memory),
+        fault => Ending::stopped(alloc, fault, platforms),
+    }
+}
+
+/// Puts a text in blocks of whole lines and flushes the sink.
+pub fn put_text<K: Sink>(out: &mut K, text: &[u8]) -> Result<(), PutFault>
+    ensures all { OnOk result (Appends (K.written out.old) (K.written out.new) text.now) }
+    ensures flushed { OnOk result (K.flushed out.new) }
+    ensures part { OnErr result (AppendsPart (K.written out.old) (K.written out.new) text.now) }
+    ensures failed { OnErr result (Rose (K.faults out.old) (K.faults out.new)) }
+{
+    put_blocks(out, text)?;
+    out.flush()
+}
+
+/// Puts the tables of a run and then, if there is a page for it, its log, and flushes the sink.
+fn put_run<K: Sink>(
+    out: &mut K,
+    tables: &[u8],
+    log: Option<LogPage>,
+    platforms: &[Platform],
+) -> Result<(), PutFault>
+    ensures all { OnOk result
+        (Appends (K.written out.old) (K.written out.new)
+        (tables.now ++ paged_log log platforms.now)) }
+    ensures flushed { OnOk result (K.flushed out.new) }
+    ensures part { OnErr result
+        (AppendsPart (K.written out.old) (K.written out.new)
+        (tables.now ++ paged_log log platforms.now)) }
+    ensures failed { OnErr result (Rose (K.faults out.old) (K.faults out.new)) }
+{
+    put_blocks(out, tables)?;
+    put_paged(out, log, platforms)?;
+    out.flush()
+}
+
+/// Puts the log of platforms, if there is a page for it.
+fn put_paged<K: Sink>(
+    out: &mut K,
+    log: Option<LogPage>,
+    platforms: &[Platform],
+) -> Result<(), PutFault>
+    ensures all { OnOk result
+        (Appends (K.written out.old) (K.written out.new) (paged_log log platforms.now)) }
+    ensures part { OnErr result
+        (AppendsPart (K.written out.old) (K.written out.new) (paged_log log platforms.now)) }
+    ensures failed { OnErr result (Rose (K.faults out.old) (K.faults out.new)) }
+    ensures grows { K.faults out.old ≤ K.faults out.new }
+{
+    match log {
+        None => Ok(()),
+        Some(page) => put_log(out, page, platforms),
+    }
+}
+
+/// Puts a text in one put, or in none if it is empty.
+fn put_whole<K: Sink>(out: &mut K, text: &[u8]) -> Result<(), PutFault>
+    ensures all { OnOk result (Appends (K.written out.old) (K.written out.new) text.now) }
+    ensures part { OnErr result (AppendsPart (K.written out.old) (K.written out.new) text.now) }
+    ensures failed { OnErr result (Rose (K.faults out.old) (K.faults out.new)) }
+    ensures grows { K.faults out.old ≤ K.faults out.new }
+{
+    if text.is_empty() {
+        return Ok(());
+    }
+    out.put(text)
+}
+
+/// Puts a text in blocks of whole lines.
+fn put_blocks<K: Sink>(out: &mut K, text: &[u8]) -> Result<(), PutFault>
+    ensures all { OnOk result (Appends (K.written out.old) (K.written out.new) text.now) }
+    ensures part { OnErr result (AppendsPart (K.written out.old) (K.written out.new) text.now) }
+    ensures failed { OnErr result (Rose (K.faults out.old) (K.faults out.new)) }
+    ensures grows { K.faults out.old ≤ K.faults out.new }
+{
+    let mut rest = text;
+    while !rest.is_empty() {
+        let (block, more) = rest.split_at(block_len(rest));
+        out.put(block)?;
+        rest = more;
+    }
+    Ok(())
+}
+
+/// The length of the lines, with their line feeds, that the first block holds; that of the block if it holds no whole line.
+fn block_len(text: &[u8]) -> usize
+    requires { 0 < length text.now }
+    ensures some { 0 < result }
+    ensures within { result ≤ length text.now }
+{
+    let most = text.len().min(MOST_AT_ONCE);
+    match memrchr(b'\n', &text[..most]) {
+        Some(last) => last + 1,
+        None => most,
+    }
+}

@@ -1,5 +1,0 @@
-use Rattle.pt_schedule.proofs.PacedRuns.{none_late}
-use Rattle.pt_schedule.proofs.paced.no_message_is_late_when_paced.Goals as goal
-
-pub returns : goal.returns
-returns c = none_late

@@ -1,5 +1,0 @@
-use Rattle.pt_schedule.proofs.OneRun.{paced_is_one}
-use Rattle.pt_schedule.proofs.paced.paced_histories_are_one.Goals as goal
-
-pub returns : goal.returns
-returns c = paced_is_one

@@ -1,5 +1,0 @@
-use Rattle.pt_schedule.proofs.Quiet.{no_two_quiet}
-use Rattle.pt_schedule.proofs.paced.quiet_rounds_stand_alone.Goals as goal
-
-pub returns : goal.returns
-returns c = no_two_quiet

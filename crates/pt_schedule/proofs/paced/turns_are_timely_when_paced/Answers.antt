@@ -1,5 +1,0 @@
-use Rattle.pt_schedule.proofs.PacedRuns.{timely_when_paced}
-use Rattle.pt_schedule.proofs.paced.turns_are_timely_when_paced.Goals as goal
-
-pub returns : goal.returns
-returns c = timely_when_paced

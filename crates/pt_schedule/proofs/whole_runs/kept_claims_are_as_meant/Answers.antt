@@ -1,5 +1,0 @@
-use Rattle.pt_schedule.proofs.Kept.{claimed_as_meant}
-use Rattle.pt_schedule.proofs.whole_runs.kept_claims_are_as_meant.Goals as goal
-
-pub returns : goal.returns
-returns c = claimed_as_meant

@@ -1,5 +1,0 @@
-use Rattle.pt_schedule.proofs.Kept.{all_on_schedule}
-use Rattle.pt_schedule.proofs.whole_runs.kept_claims_are_on_schedule.Goals as goal
-
-pub returns : goal.returns
-returns c = all_on_schedule

@@ -1,5 +1,0 @@
-use Rattle.pt_schedule.proofs.Existing.{meanings_exist}
-use Rattle.pt_schedule.proofs.whole_runs.meanings_exist.Goals as goal
-
-pub returns : goal.returns
-returns c = meanings_exist

@@ -1,3 +1,0 @@
-mod Collects
-mod Places
-mod Sites

@@ -1,5 +1,0 @@
-use Rattle.pt_skies.proofs.Times.{arrivals_never_fall}
-use Rattle.pt_skies.proofs.laws.arrivals_never_fall.Goals as goal
-
-pub returns : goal.returns
-returns c = arrivals_never_fall

@@ -1,5 +1,0 @@
-use Rattle.pt_skies.proofs.Replays.{replays_are_legal}
-use Rattle.pt_skies.proofs.laws.replayed_histories_are_legal.Goals as goal
-
-pub returns : goal.returns
-returns c = replays_are_legal

@@ -1,5 +1,0 @@
-use Rattle.pt_skies.proofs.Times.{never_falls}
-use Rattle.pt_skies.proofs.laws.true_time_never_falls.Goals as goal
-
-pub returns : goal.returns
-returns c = never_falls

@@ -1,6 +1,0 @@
-pub mod Between
-pub mod Ending
-pub mod Flights
-pub mod OneReplay
-pub mod Sky
-pub mod Times

@@ -1,7 +1,0 @@
-use Rattle.std.proofs.Common.{◌≡◌, take}
-use Rattle.pt_semantics.specs.Lists.{IsIn}
-use Rattle.pt_state.specs.declared.fields.OpenClaim.{OpenClaim}
-use Rattle.pt_state.proofs.open_claims.OpenClaims.find_among.Given as goal
-
-abbrev pub invariant-loop-place : goal.invariant-loop-place
-invariant-loop-place l = (c : OpenClaim) → IsIn c (take l.place l.self-inside.claims.items) → c.task ≡ l.task → ⊥

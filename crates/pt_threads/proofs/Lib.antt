@@ -1,4 +1,0 @@
-mod Links
-mod Stations
-mod Naming
-mod Ending

@@ -1,5 +1,0 @@
-use Rattle.pt_together.proofs.Showing.{start_shows}
-use Rattle.pt_together.proofs.laws.start_shows.Goals as goal
-
-pub returns : goal.returns
-returns c = start_shows

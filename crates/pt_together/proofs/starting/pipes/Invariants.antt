@@ -1,5 +1,0 @@
-use Rattle.std.proofs.Common.{◌≡◌, [], replicate}
-use Rattle.pt_together.proofs.starting.pipes.Given as goal
-
-abbrev pub invariant-loop : goal.invariant-loop
-invariant-loop l = l.pipes.items ≡ replicate l.counter []

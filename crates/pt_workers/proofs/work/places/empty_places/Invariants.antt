@@ -1,0 +1,5 @@
+use Rattle.std.proofs.Common.{◌≡◌, vec_len, vec_capacity}
+use Rattle.pt_workers.proofs.work.places.empty_places.Given as goal
+
+abbrev pub invariant-loop-k : goal.invariant-loop-k
+invariant-loop-k g l = (vec_len l.places ≡ l._k) × (vec_capacity l.places ≡ l.count)

@@ -1,0 +1,4 @@
+pub mod LinkEnds
+pub mod Opened
+pub mod Reported
+pub mod Working

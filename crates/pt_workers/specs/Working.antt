@@ -1,0 +1,3 @@
+pub mod WorkerHands
+pub mod Orders
+pub mod Surveys
