@@ -1,0 +1,220 @@
+"""The commands of `ptides`, and two of its companions, as functions.
+
+A graph is the path of its file, of a folder with a `graph.json`, or a dict. A sensor is a pandas Series or DataFrame, or the path of a
+file; one that isn't given has the file that the graph names, looked up from `folder`, or else from the folder of the graph.
+"""
+from __future__ import annotations
+
+import csv
+import io
+import os
+import re
+from contextlib import nullcontext
+from pathlib import Path
+from typing import Any, Collection, Iterable, Mapping, NamedTuple, Optional, Union
+
+from ptides import companions, files, program
+from ptides.companion import write
+from ptides.graphs import Changes, Graph, Placed, placed
+from ptides.program import Done, Fault, Refused
+from ptides.results import Result, Verdict
+from ptides.records import Margin, Rows, Slack
+from ptides.tables import margins_of, slacks_of
+
+PathLike = Union[str, os.PathLike]
+# A clock: `paced`, `machine`, `step:START:STEP`, or ("step", START, STEP).
+Clock = Union[str, tuple[str, int, int]]
+Sensors = Mapping[str, Any]
+NOTHING: Sensors = {}
+
+
+def run(graph: Graph, *, clock: Clock = "paced", workers: Optional[int] = None, log: bool = True, until: Any = None, zero: Any = None,
+        probes: Union[bool, Iterable[str]] = (), folder: Optional[PathLike] = None, sensors: Sensors = NOTHING, **more: Any) -> Result:
+    """Runs a graph. Misses are part of the result; any other fault raises `Refused`.
+
+    Sensors are given by name, as `pedal=frame`, or in `sensors` if a name is also one of these words. `until` is another horizon than
+    that of the graph. Stamps of sensors are counted from `zero`, or else from the whole second at or before the first of them. `probes`
+    names actors whose outputs are to be watched too, or is `True` for all. Without `log` a long run takes less memory, and has no
+    `rooms`.
+
+        >>> result = run("examples/governor")
+        >>> result.events["valve"]
+        [Event(time=3500, step=0, value=1), Event(time=4500, step=0, value=0)]
+    """
+    changes = Changes({**sensors, **more}, zero, until, probes)
+    words = [*options_of(clock, workers), *(["--log"] if log else [])]
+    with placed(graph, folder, changes) as ready:
+        return Result(ask(["run", ready.word, *words], ready, (0, 5)), ready)
+
+
+def meaning(graph: Graph, *, until: Any = None, zero: Any = None, probes: Union[bool, Iterable[str]] = (),
+            folder: Optional[PathLike] = None, sensors: Sensors = NOTHING, **more: Any) -> Result:
+    """What the definition says that a graph does: the tables alone, whatever its bounds and slacks, and whichever rows are late."""
+    with placed(graph, folder, Changes({**sensors, **more}, zero, until, probes)) as ready:
+        return Result(ask(["meaning", ready.word], ready), ready)
+
+
+def replay(graph: Graph, air: Any, *, log: bool = True, until: Any = None, zero: Any = None, probes: Union[bool, Iterable[str]] = (),
+           folder: Optional[PathLike] = None, sensors: Sensors = NOTHING, **more: Any) -> Result:
+    """Runs a graph over a recorded network: `air` is the path of an air file, or a DataFrame with its columns."""
+    changes = Changes({**sensors, **more}, zero, until, probes)
+    with placed(graph, folder, changes) as ready, files.air_file(air) as path:
+        return Result(ask(["replay", ready.word, path, *(["--log"] if log else [])], ready, (0, 5)), ready)
+
+
+def check(graph: Graph) -> Rows[Margin]:
+    """How long each actor waits, and how much time is then left.
+
+        >>> check("examples/governor")[-1]
+        Margin(actor='valve', offset=-550, margin=549)
+    """
+    with placed(graph, None, Changes()) as ready:
+        return margins_of(ask(["check", ready.word], ready).output)
+
+
+def slacks(graph: Graph) -> Rows[Slack]:
+    """The least slacks with which a graph can run.
+
+        >>> slacks("examples/governor")
+        [Slack(actor='up', slack=0), Slack(actor='valve', slack=0)]
+    """
+    with placed(graph, None, Changes()) as ready:
+        return slacks_of(ask(["slacks", ready.word], ready).output)
+
+
+def audit(graph: Graph, log: Union[PathLike, Result], *, folder: Optional[PathLike] = None, sensors: Sensors = NOTHING,
+          **more: Any) -> Verdict:
+    """Whether a log, a file or what a run wrote, is one that some run can have written.
+
+        >>> result = run("examples/governor")
+        >>> audit("examples/governor", result).lawful
+        True
+    """
+    with placed(graph, folder, Changes({**sensors, **more})) as ready, files.kept(log_text(log)) as path:
+        done = ask(["audit", ready.word, path], ready, (0, 10))
+        if not done.status:
+            return Verdict()
+        return Verdict(done.line, program.place_of(done.line), explanation_of(["audit", ready.word, path], ready, done.line))
+
+
+def log_text(log: Union[PathLike, Result]) -> Union[str, PathLike]:
+    """The text of a log that a run wrote, or the path of a file."""
+    return log.output if isinstance(log, Result) else Path(os.path.abspath(log))
+
+
+def report(graph: Graph, file: PathLike, *, air: Any = None, clock: Clock = "paced", until: Any = None, zero: Any = None, title: str = "",
+           folder: Optional[PathLike] = None, sensors: Sensors = NOTHING, **more: Any) -> int:
+    """Runs a graph, or replays it over the recorded network `air`, and writes the page of the run. Gives the status of the run."""
+    from ptides.reporting.gather import Asked, gather
+    from ptides.reporting.page import page
+    from ptides.reporting.stamps import zero_of_timestamp
+    from ptides.times import stamp_of
+
+    network = nullcontext(None) if air is None else files.air_file(air)
+    with placed(graph, folder, Changes({**sensors, **more}, zero, until)) as ready, network as path:
+        name = str(ready.origin or "graph.json")
+        found = gather(Asked(ready.folder / ready.word, None if path is None else Path(path), clock, ready.folder, name))
+        text = page(found, title or name, zero_of_timestamp(stamp_of(ready.zero)))
+    write(file, text)
+    return found.status
+
+
+class Growth(NamedTuple):
+    """How far a number of the graph may grow with all in time, what happens then, and whose offset it sets."""
+
+    number: str
+    of: str
+    now: int
+    may_grow_by: int
+    then: str
+    check_accepts: int
+    sets_the_offset_of: str
+
+
+class Offset(NamedTuple):
+    """What sets the offset of an actor, and the way from there."""
+
+    actor: str
+    offset: int
+    margin: Optional[int]
+    set_by: str
+    path: str
+
+
+class Timing(NamedTuple):
+    """The two tables of `ptides timing`."""
+
+    growth: Rows[Growth]
+    offsets: Rows[Offset]
+
+
+def timing(graph: Graph) -> Timing:
+    """How far each bound, slack, link delay and clock error may grow, and which path sets each offset.
+
+        >>> timing("examples/governor").growth[0].may_grow_by
+        299
+    """
+    with placed(graph, None, Changes()) as ready:
+        growth, _, offsets = ask_companion("timing", [ready.word], ready).output.partition("\n\n")
+    grown = (Growth(*row[:2], *map(int, row[2:4]), row[4], int(row[5]), row[6]) for row in table_of(growth))
+    set_by = (Offset(row[0], int(row[1]), None if row[2] == "-" else int(row[2]), *row[3:]) for row in table_of(offsets))
+    return Timing(Rows(Growth, grown), Rows(Offset, set_by))
+
+
+def table_of(text: str) -> list[list[str]]:
+    """The records of a table after its head."""
+    return list(csv.reader(io.StringIO(text)))[1:]
+
+
+class Remark(NamedTuple):
+    """What is lawful in a graph and probably not meant, and the line of the graph that it is about."""
+
+    line: Optional[int]
+    text: str
+
+
+def lint(graph: Graph, *, folder: Optional[PathLike] = None, sensors: Sensors = NOTHING, **more: Any) -> Rows[Remark]:
+    """What is lawful in a graph and probably not meant.
+
+        >>> [remark.text[:11] for remark in lint("examples/missed")]
+        ['margin -101']
+    """
+    with placed(graph, folder, Changes({**sensors, **more})) as ready:
+        output = ask_companion("lint", [ready.word], ready).output
+        found = re.findall(r"^" + re.escape(ready.word) + r"(?::(\d+))?: warning: (.*)$", output, re.MULTILINE)
+    return Rows(Remark, (Remark(int(line) if line else None, text) for line, text in found))
+
+
+def options_of(clock: Clock, workers: Optional[int]) -> list[str]:
+    """The options of `run` for these; what is usual has none."""
+    word = clock if isinstance(clock, str) else ":".join(map(str, clock))
+    return [*([] if word == "paced" else ["--clock", word]), *([] if workers is None else ["--workers", str(workers)])]
+
+
+def ask(words: list[str], ready: Placed, accepted: Collection[int] = (0,)) -> Done:
+    """What the program answers. A status that isn't accepted raises `Refused`, with what `explain` shows."""
+    done = program.run(words, folder=ready.folder, program=companions.program_itself(program.find_program()))
+    if done.status not in accepted:
+        raise Refused(done, explanation_of(words, ready, done.line))
+    return done
+
+
+def explanation_of(words: list[str], ready: Placed, line: str) -> str:
+    """What `explain` shows of a line; of a fault in a file that the user knows, at its place there."""
+    folder, words = ready.folder, list(words)
+    if line.startswith("graph: ") and ready.origin is not None:
+        folder = Path.cwd()
+        words[1] = str(ready.origin)
+    try:
+        done = companions.call("explain", "--line", line, *words, folder=folder)
+    except Fault:
+        return ""
+    return done.output.strip("\n")
+
+
+def ask_companion(name: str, words: list[str], ready: Placed) -> Done:
+    """What a companion answers about a graph."""
+    done = companions.call(name, *words, folder=ready.folder)
+    if done.status:
+        raise Refused(done, explanation_of(["check", ready.word], ready, done.line))
+    return done

@@ -1,0 +1,156 @@
+"""A graph as Python has it, the path of a file or a dict, made ready to run: with other sensor files, another horizon, probes."""
+from __future__ import annotations
+
+import copy
+import json
+import os
+import re
+import tempfile
+from contextlib import contextmanager
+from dataclasses import dataclass, field
+from pathlib import Path
+from typing import Any, Iterable, Iterator, Mapping, Optional, Union
+
+from ptides import probes, sensors, times
+from ptides.companion import read
+from ptides.probes import Output
+from ptides.program import Fault
+
+Graph = Union[str, os.PathLike, Mapping[str, Any]]
+# The name of the graph in a folder.
+USUAL = "graph.json"
+# What is raised by a text that is no graph. The program says why it is none.
+NO_GRAPH = (ValueError, LookupError, TypeError, AttributeError, RecursionError)
+NAME = re.compile("[A-Za-z][A-Za-z0-9_]*")
+
+
+@dataclass
+class Changes:
+    """What is to be changed in a graph before it runs."""
+
+    sensors: Mapping[str, Any] = field(default_factory=dict)
+    zero: Any = None
+    until: Any = None
+    # The actors whose outputs are watched; `True` is all of them.
+    probes: Union[bool, Iterable[str]] = ()
+
+    def __bool__(self) -> bool:
+        return bool(self.sensors or self.probes) or self.until is not None
+
+
+@dataclass
+class Placed:
+    """A graph that is ready: the folder to run in, the word that names the graph, its text, the zero of its times, its probes.
+
+    `origin` is the file that the user knows, if the graph has one.
+    """
+
+    folder: Path
+    word: str
+    text: bytes
+    zero: Any = None
+    probes: dict[str, Output] = field(default_factory=dict)
+    origin: Optional[Path] = None
+
+    @property
+    def graph(self) -> dict[str, Any]:
+        """The graph; only one that the program takes is sure to have all members."""
+        return json.loads(self.text)
+
+
+def text_of(graph: Mapping[str, Any]) -> str:
+    """A graph as text, with a line for each entry of an array."""
+    parts = []
+    for key, value in graph.items():
+        entries = ",\n  ".join(json.dumps(entry, separators=(",", ":")) for entry in value) if isinstance(value, list) else ""
+        parts.append(f"{json.dumps(key)}:" + (f"[\n  {entries}]" if entries else json.dumps(value)))
+    return "{" + ",\n ".join(parts) + "}\n"
+
+
+def file_of(graph: Union[str, os.PathLike]) -> Path:
+    """The file of a graph: the path, or `graph.json` in the folder that it names."""
+    path = Path(graph)
+    return path / USUAL if path.is_dir() else path
+
+
+def is_lasting(path: Path) -> bool:
+    """Whether the program can read the file again. A pipe can be read only once, and a device may be another one there."""
+    return path.is_file() and not str(path).startswith(("/dev/", "/proc/"))
+
+
+def word_of(path: Path, home: Path) -> str:
+    """The path as seen from a folder, as a word that is no option."""
+    word = os.path.relpath(os.path.abspath(path), home)
+    return f"./{word}" if word.startswith("-") else word
+
+
+@contextmanager
+def placed(graph: Graph, folder: Optional[Union[str, os.PathLike]], changes: Changes) -> Iterator[Placed]:
+    """The graph, ready to run.
+
+    One that is a file and isn't changed runs where its sensor files are: in `folder`, or else in its own folder. Otherwise it is
+    written into a folder of its own, which is removed afterwards, with links to the sensor files.
+    """
+    path = None if isinstance(graph, Mapping) else file_of(graph)
+    home = Path(os.path.abspath(folder or (path.parent if path else ".")))
+    text = text_of(graph).encode() if path is None else read(path)
+    if path is not None and is_lasting(path) and not changes:
+        yield Placed(home, word_of(path, home), text, zero_of(text, home, changes), origin=path)
+        return
+    with tempfile.TemporaryDirectory(prefix="ptides-") as work:
+        yield changed(Path(work), home, text, changes, path)
+
+
+def zero_of(text: bytes, home: Path, changes: Changes) -> Any:
+    """The zero of the times of a graph."""
+    try:
+        recorded = sensors.recorded_zero(json.loads(text), home, changes.sensors)
+    except NO_GRAPH:
+        recorded = None
+    return sensors.common_zero(changes.sensors, changes.zero, recorded)
+
+
+def changed(work: Path, home: Path, text: bytes, changes: Changes, origin: Optional[Path]) -> Placed:
+    """Writes the changed graph and the files of its sensors into a folder."""
+    zero = zero_of(text, home, changes)
+    probed: dict[str, Output] = {}
+    try:
+        graph = copy.deepcopy(json.loads(text))
+        place_sensors(graph, work, home, changes.sensors, zero)
+    except NO_GRAPH:
+        pass
+    else:
+        if changes.until is not None:
+            graph["until"] = times.microseconds(changes.until, zero, "until")
+        if changes.probes:
+            graph, probed = probes.with_probes(graph, watched(graph, changes.probes))
+        text = text_of(graph).encode()
+    (work / USUAL).write_bytes(text)
+    return Placed(work, USUAL, text, zero, probed, origin)
+
+
+def place_sensors(graph: dict[str, Any], work: Path, home: Path, given: Mapping[str, Any], zero: Any) -> None:
+    """Gives each sensor a file in the folder: the data that is given for it, or a link to the file that the graph names."""
+    actors = [actor for actor in graph["actors"] if actor["kind"] == "sensor"]
+    names = [actor["name"] for actor in actors]
+    if len(set(names)) < len(names) or not all(map(NAME.fullmatch, names)):
+        raise ValueError("the names are those of no graph")
+    for name in given:
+        if name not in names:
+            raise Fault(f"the graph has no sensor {name}, but {', '.join(names) or 'none'}")
+    for actor in actors:
+        data = given.get(actor["name"])
+        actor["file"], file = f"{actor['name']}.csv", actor["file"]
+        sensors.write(actor["name"], home / file if data is None else data, work / actor["file"], zero)
+
+
+def watched(graph: dict[str, Any], chosen: Union[bool, Iterable[str]]) -> list[Output]:
+    """The outputs of the actors chosen, or of all."""
+    outputs = list(probes.all_outputs(graph))
+    if chosen is True:
+        return outputs
+    names = [chosen] if isinstance(chosen, str) else list(chosen)
+    for name in names:
+        if name not in {of for of, _ in outputs}:
+            raise Fault(f"the graph has no actor {name} with an output")
+    return [output for output in outputs if output[0] in names]

@@ -1,0 +1,155 @@
+"""Sensor files: a row for each sample, with its time by a rule that was stated."""
+from __future__ import annotations
+
+from fractions import Fraction
+from itertools import islice
+from math import floor
+from typing import Iterable, NamedTuple, Optional
+
+from ptides import wall_time
+from ptides.program import Fault
+from ptides.recordings.candump import text_of
+from ptides.recordings.samples import MOST_ROWS, MOST_SEEN, MOST_TIME, Asked, Number, Sample, fault_at, lines_of, place
+
+LEAST_VALUE, MOST_VALUE = -(2**63), 2**63 - 1
+
+
+class Row(NamedTuple):
+    """A row of the sensor file, and the line of the recording that it is from."""
+
+    line: int
+    time: int
+    seen: int
+    value: int
+
+
+def time_of(asked: Asked, sample: Sample) -> int:
+    """The time of a row by the rule that was stated."""
+    if sample.time is not None:
+        return sample.time
+    time = sample.seen - (asked.latency or 0)
+    return time if asked.period is None else time - (time - asked.phase) % asked.period
+
+
+def value_of(asked: Asked, sample: Sample) -> int:
+    """The whole value of a row."""
+    value: Number = sample.number * asked.scale + asked.shift
+    if asked.round:
+        value = floor(abs(Fraction(value)) + Fraction(1, 2)) * (-1 if value < 0 else 1)
+    if value.denominator != 1:
+        shown = f"{float(value):.12g}"
+        raise fault_at(asked, sample.line, f"the value {shown} is not whole: choose another --scale, or --round")
+    if not LEAST_VALUE <= value <= MOST_VALUE:
+        raise fault_at(asked, sample.line, f"the value {value} does not fit 64 bits")
+    return int(value)
+
+
+def check_row(asked: Asked, row: Row, before: Optional[Row]) -> None:
+    """Refuses what a sensor file may not have."""
+    wrong = None
+    if row.seen < 0 or row.time < 0:
+        wrong = f"time {row.time}, seen {row.seen}: below 0; choose a smaller --zero, or begin later with --from"
+    elif row.time > MOST_TIME or row.seen > MOST_SEEN:
+        wrong = f"time {row.time}, seen {row.seen}: too large; choose a --zero"
+    elif row.seen < row.time:
+        wrong = f"seen {row.seen} is before its time {row.time}"
+    elif before and row.seen < before.seen:
+        wrong = f"seen falls: {row.seen} after {before.seen} of line {before.line}"
+    elif before and row.time == before.time:
+        wrong = f"two rows of one time: {row.time} is also the time of line {before.line}; {better_rule(asked)}--last takes the last of them"
+    elif before and row.time < before.time:
+        wrong = f"time falls: {row.time} after {before.time} of line {before.line}"
+    if wrong:
+        raise fault_at(asked, row.line, wrong)
+
+
+def is_taken(asked: Asked, sample: Sample) -> bool:
+    """Whether a sample is from --from to --to."""
+    return (asked.first is None or sample.seen >= asked.first) and (asked.last is None or sample.seen <= asked.last)
+
+
+def phases(stamps: list[int], period: int, latency: int) -> Optional[range]:
+    """The phases with which each of the stamps has a time of its own. They lie in the longest part of a period without a stamp."""
+    places = sorted({(stamp - latency) % period for stamp in stamps})
+    gaps = [(after - before, after) for before, after in zip(places, [*places[1:], places[0] + period])]
+    length, last = max(gaps)
+    times = {(stamp - latency - last) // period for stamp in stamps}
+    return range(last - length + 1, last + 1) if len(times) == len(stamps) else None
+
+
+def proposal(asked: Asked, period: int) -> str:
+    """Which phases give each row a time of its own; nothing if there is none, or if the recording can be read only once."""
+    asked.passed.clear()
+    try:
+        stamps = [sample.seen for sample in islice(asked.samples(asked), MOST_ROWS) if is_taken(asked, sample)]
+    except Fault:
+        return ""
+    found = phases(stamps, period, asked.latency or 0) if stamps else None
+    if found is None:
+        return ""
+    # A phase and one that is a period less are the same; the smaller ones are shown.
+    more = period if found[-1] >= period else 0
+    low, high = found[0] - more, found[-1] - more
+    others = f" (as do those from {low} to {high})" if low < high else ""
+    return f"--phase {0 if low <= 0 <= high else high} gives each row a time of its own{others}"
+
+
+def better_rule(asked: Asked) -> str:
+    """What to change in the rule, if two rows have one time."""
+    found = proposal(asked, asked.period) if asked.period else ""
+    return f"{found}, and " if found else ""
+
+
+def rows_of(asked: Asked, samples: Iterable[Sample]) -> list[Row]:
+    """All rows, from --from to --to. If asked for it the last of several rows of one time is taken."""
+    rows: list[Row] = []
+    for sample in samples:
+        if not is_taken(asked, sample):
+            continue
+        row = Row(sample.line, time_of(asked, sample), sample.seen, value_of(asked, sample))
+        if asked.take_last and rows and row.time == rows[-1].time and row.seen >= rows[-1].seen:
+            asked.passed["rows before the last of one time"] += 1
+            rows.pop()
+        check_row(asked, row, rows[-1] if rows else None)
+        rows.append(row)
+        if len(rows) > MOST_ROWS:
+            raise fault_at(asked, sample.line, f"more than {MOST_ROWS} rows; choose a part with --from and --to")
+    if not rows:
+        raise Fault(f"{asked.recording}: no value is in it, or none from --from to --to")
+    return rows
+
+
+def text_of_rows(rows: list[Row]) -> str:
+    """The sensor file."""
+    return "".join(["time,seen,value\n", *(f"{row.time},{row.seen},{row.value}\n" for row in rows)])
+
+
+def report(asked: Asked, rows: list[Row]) -> str:
+    """What the recording is like, what was passed over, and the bound that it needs."""
+    waits = sorted(row.seen - row.time for row in rows)
+    last = max(rows, key=lambda row: row.seen - row.time)
+    most = waits[min(len(waits) - 1, len(waits) * 999 // 1000)]
+    zero = [] if asked.unit == "iso" else [f"{float(asked.zero or 0):.15g}"]
+    zero += [] if asked.wall is None else [wall_time.text_of(asked.wall)]
+    lines = [
+        f"{len(rows)} rows, from {rows[0].time} to {rows[-1].time}; 0 is the stamp {', '.join(zero)}",
+        f"seen - time: least {waits[0]}, median {waits[len(waits) // 2]}, of 99.9 % at most {most}, greatest {waits[-1]} ({place(asked, last.line)})",
+    ]
+    if len(rows) > 1:
+        before, after = max(zip(rows, rows[1:]), key=lambda pair: pair[1].time - pair[0].time)
+        lines.append(f"longest time between two rows: {after.time - before.time}, before {place(asked, after.line)}")
+    if asked.passed:
+        lines.append("passed over: " + ", ".join(f"{what} {count}" for what, count in asked.passed.items()))
+    return "\n".join([*lines, f"this recording needs a bound of {waits[-1]}"]) + "\n"
+
+
+def line_of_row(asked: Asked, rows: list[Row]) -> str:
+    """The line of the recording from which a row is."""
+    if not 1 <= asked.row <= len(rows):
+        raise Fault(f"there is no row {asked.row}: the rows are 1 to {len(rows)}")
+    row = rows[asked.row - 1]
+    if asked.frames:
+        text = next(text_of(frame) for frame in asked.frames(asked.recording) if frame.line == row.line)
+    else:
+        text = next(text for line, text in lines_of(asked.recording) if line == row.line)
+    return f"row {asked.row}: time {row.time}, seen {row.seen}, value {row.value}\n{place(asked, row.line)}: {text.rstrip()}\n"

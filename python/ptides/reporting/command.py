@@ -1,0 +1,87 @@
+"""`ptides report`: the words, and the file that is written."""
+from __future__ import annotations
+
+from contextlib import contextmanager
+from functools import partial
+from pathlib import Path
+from typing import Any, Iterator, Mapping, Optional
+
+from ptides import companion, wall_time
+from ptides.files import kept
+from ptides.graphs import is_lasting
+from ptides.program import Fault
+from ptides.reporting.campaign import are_folders, campaign_page
+from ptides.reporting.gather import Asked, gather
+from ptides.reporting.page import page
+from ptides.reporting.stamps import Zero, zero_of
+
+DESCRIPTION = """\
+Writes a run as one page of HTML that needs nothing else: the graph with its margins, a trend of each sensor, inner signal, message and
+actuator, what was missed or late, how far each number may grow, and what was run, with digests."""
+EXAMPLES = """\
+examples:
+  ptides report graph.json -o review.html
+  ptides report graph.json --zero 2026-03-29T00:58:00Z     times of the clock on the wall
+  ptides report replay graph.json air.csv                  over a recorded network
+  ptides report examples/stand/scenarios -o stand.html     all scenarios of `ptides bench` in a folder
+
+Without -o it writes GRAPH's name with .html into the current folder; - is the standard output. The status is that of the run: 0, 5 if
+something was missed, or 4 if a row or message was late; other refusals write no page. Of folders it is 1 if a scenario failed."""
+
+
+def parser() -> companion.Parser:
+    """The words."""
+    found = companion.parser("report", DESCRIPTION, EXAMPLES, usage="ptides report [-h] [OPTION..] [run] GRAPH | replay GRAPH AIR | FOLDER..")
+    found.add_argument("words", nargs="+", metavar="GRAPH", help="a graph; or `replay`, a graph and an air file; or folders of scenarios")
+    found.add_argument("-o", "--output", metavar="FILE", help="where the page goes")
+    found.add_argument("--clock", default="paced", metavar="CLOCK", help="as of ptides run: paced, step:START:STEP or machine")
+    found.add_argument("--zero", metavar="STAMP", help="the wall time of 0, as 2026-03-29T00:58:00Z (default: what `ptides rows` keeps beside "
+                       "the sensor files)")
+    found.add_argument("--zone", metavar="ZONE", help="the zone of the clock on the wall, as UTC, Europe/Berlin or +01:00 (default: UTC)")
+    found.add_argument("--title", metavar="TEXT", help="the title of the page (default: the path of the graph)")
+    return found
+
+
+def asked_of(words: list[str], clock: str) -> Asked:
+    """What the words ask for. The sensor files are looked up from the current folder."""
+    command, rest = (words[0], words[1:]) if words[0] in ("run", "replay") and len(words) > 1 else ("run", words)
+    if len(rest) != (2 if command == "replay" else 1):
+        raise Fault(f"{command} takes {'a graph and an air file' if command == 'replay' else 'one graph'}, and not `{' '.join(rest)}`")
+    if command == "replay" and clock != "paced":
+        raise Fault("replay takes no --clock: its clocks are those of the recording")
+    return Asked(Path(rest[0]), Path(rest[1]) if command == "replay" else None, clock, Path.cwd())
+
+
+@contextmanager
+def once_read(asked: Asked) -> Iterator[Asked]:
+    """The same, with a file instead of a graph that can be read only once, as a pipe."""
+    if is_lasting(asked.graph) or not asked.graph.exists():
+        yield asked
+        return
+    with kept(companion.read(asked.graph).decode("utf-8", "surrogateescape")) as path:
+        yield asked._replace(graph=Path(path), name=str(asked.graph))
+
+
+def stated_zero(stamp: Optional[str], zone: Optional[str], graph: Mapping[str, Any], folder: Path) -> Optional[Zero]:
+    """The zero that the words state, or else the one that is kept beside the sensor files."""
+    place = wall_time.zone_of(zone) if zone else None
+    found = wall_time.seconds(stamp, place) if stamp else wall_time.zero_of(graph, folder)
+    return None if found is None else zero_of(found, place)
+
+
+def main() -> int:
+    """Runs, and writes the page."""
+    given = parser().parse_args()
+    if are_folders(given.words):
+        title = given.title or " ".join(given.words)
+        text, status = campaign_page(given.words, title, partial(stated_zero, given.zero, given.zone))
+        companion.write(given.output or "scenarios.html", text)
+        return status
+    asked = asked_of(given.words, given.clock)
+    with once_read(asked) as ready:
+        found = gather(ready)
+    text = page(found, given.title or str(asked.graph), stated_zero(given.zero, given.zone, found.graph, Path.cwd()))
+    companion.write(given.output or f"{asked.graph.stem or 'graph'}.html", text)
+    if found.refused:
+        companion.say(found.refused.line)
+    return found.status

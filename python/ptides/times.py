@@ -1,0 +1,71 @@
+"""Wall time and microseconds.
+
+Times in graphs and tables are whole microseconds from a zero. What has wall time, as a Series with a DatetimeIndex, is brought to them.
+"""
+from __future__ import annotations
+
+from datetime import date, timedelta
+from fractions import Fraction
+from typing import Any, Iterable
+
+from ptides import wall_time
+from ptides.program import Fault
+
+
+def microseconds(value: Any, zero: Any, what: str) -> int:
+    """A time in microseconds: a number is one, a length of time is counted, and a wall time is counted from the zero."""
+    if isinstance(value, timedelta):
+        return value // timedelta(microseconds=1)
+    if isinstance(value, (date, str)):
+        return span_of(value, zero, what) // timedelta(microseconds=1)
+    try:
+        return value.__index__()
+    except AttributeError:
+        raise Fault(f"{what}: {value!r} is no time: a whole number of microseconds, a timedelta, or a time of the wall clock") from None
+
+
+def span_of(stamp: Any, zero: Any, what: str) -> timedelta:
+    """How long after the zero a wall time is."""
+    import pandas
+
+    if zero is None:
+        raise Fault(f"{what}: {stamp} is a time of the wall clock, and no sensor has such times: name a zero")
+    return pandas.Timestamp(stamp) - stamp_of(zero)
+
+
+def numbers_of(index: Any, zero: Any, what: str) -> Any:
+    """The times of an index or a column in whole microseconds; parts of a microsecond are cut."""
+    import pandas
+
+    index = pandas.Index(index)
+    if isinstance(index, pandas.DatetimeIndex):
+        try:
+            index = index - stamp_of(zero)
+        except TypeError as fault:
+            raise Fault(f"{what}: of the stamps and the zero one has a time zone and one has none: {zero}") from fault
+    if isinstance(index, pandas.TimedeltaIndex):
+        if index.hasnans:
+            raise Fault(f"{what}: a time is missing")
+        return index // pandas.Timedelta(microseconds=1)
+    if not pandas.api.types.is_integer_dtype(index):
+        raise Fault(f"{what}: times are whole microseconds, lengths of time or times of the wall clock, and not {index.dtype}: "
+                    "pandas.to_timedelta(times, unit='s') makes them of seconds")
+    return index
+
+
+def second_before(stamps: Iterable[Any]) -> Any:
+    """The whole second at or before the first of these wall times; `None` if there is none."""
+    first = min(stamps, default=None)
+    return None if first is None else first.floor("s")
+
+
+def stamp_of(zero: Any) -> Any:
+    """A zero as pandas has it; a number of seconds since the start of 1970 is in UTC."""
+    if zero is None:
+        return None
+    import pandas
+
+    try:
+        return pandas.Timestamp(wall_time.text_of(zero) if isinstance(zero, Fraction) else zero)
+    except ValueError as fault:
+        raise Fault(f"{zero} is no time of the wall clock: {fault}") from fault

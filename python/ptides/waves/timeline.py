@@ -1,0 +1,317 @@
+"""A run as a picture: a line for each actor, with its events, readings, deadlines and messages. Many events are drawn as bands."""
+from __future__ import annotations
+
+import math
+from dataclasses import dataclass
+from fractions import Fraction
+from typing import Any, Iterator, NamedTuple, Optional
+from xml.sax.saxutils import escape
+
+from ptides import wall_time
+from ptides.probes import outputs_of
+from ptides.waves.recording import Recording
+
+WIDTH, RIGHT, HEIGHT, TOP = 1150, 40, 24, 34
+# Firings nearer to each other than this many points, at least so many of them, become a band.
+NEAR, CROWD = 4, 6
+# How many firings are drawn singly, on one line and on all, and how many points of bands: so a picture has less than 2 MB.
+MOST_ON_A_LINE, MOST_SINGLE, MOST_COLUMNS = 120, 3000, 60_000
+# The width of signs of both sizes of text, rounded up.
+SIGN, SMALL_SIGN = 6.4, 5.4
+STYLE = """
+text{font:11px Helvetica,Arial,sans-serif;fill:#0f172a} .small{font-size:9px;fill:#64748b} .platform{font-weight:bold}
+.frame{fill:#f8fafc;stroke:#cbd5e1} .grid{stroke:#e2e8f0} .seen{stroke:#2563eb;stroke-width:2} .deadline{fill:none;stroke:#d97706;stroke-width:1.5}
+.message{stroke:#7c3aed;stroke-dasharray:4 3} .many{opacity:.25} .wait{stroke:#94a3b8;stroke-width:3;opacity:.5} .event{fill:#fff;stroke:#0f172a}
+.acted{fill:#0f172a} .early .acted{fill:#16a34a} .early .wait{stroke:#16a34a} .miss{fill:none;stroke:#dc2626;stroke-width:2} .late .wait{stroke:#dc2626}
+.band{fill:none;stroke:#0f766e}
+"""
+
+
+class Firing(NamedTuple):
+    """What a unit did: the time of its event, the reading at which it fired, and what else is known of it."""
+
+    time: int
+    step: int
+    reading: int
+    value: Optional[int]
+    deadline: Optional[int]
+    missed: bool
+
+
+@dataclass
+class Unit:
+    """A line of the timeline: an actor, or a cell of lanes."""
+
+    actor: dict[str, Any]
+    label: str
+    firings: list[Firing]
+    height: float = 0.0
+
+    def shows_values(self) -> bool:
+        """Whether the values are written beside single firings: those at the ends of a platform."""
+        return self.actor["kind"] in ("sensor", "receive", "send", "actuator")
+
+
+def firings_of(recording: Recording, actor: dict[str, Any], output: int) -> list[Firing]:
+    """The firings of an actor, or of a cell of lanes, whose events have the same tags."""
+    name = actor["name"]
+    found = recording.values.get((name, output), [])
+    values = {(value.time, value.step): value.value for value in found} if outputs_of(actor) <= 1 or actor["kind"] == "lanes" else {}
+    if actor["kind"] == "lanes":
+        fired = [(value.time, value.step, value.reading) for value in found]
+    else:
+        fired = [(entry.time, entry.step, entry.reading) for entry in recording.logged.get(("claim", name), [])]
+    slack = actor.get("slack")
+    return [
+        Firing(time, step, reading, values.get((time, step)), None if slack is None else time + slack, (name, time, step) in recording.missed)
+        for time, step, reading in fired
+    ]
+
+
+def units_of(recording: Recording) -> list[Unit]:
+    """The lines of the picture."""
+    units = []
+    for actor in recording.actors():
+        cells = len(actor.get("cells", [1]))
+        for cell in range(cells):
+            label = actor["name"] if cells == 1 else f"{actor['name']}, cell {cell}"
+            units.append(Unit(actor, label, firings_of(recording, actor, cell)))
+    return units
+
+
+class Scale:
+    """Where a time is on the picture."""
+
+    def __init__(self, first: int, last: int, left: float):
+        self.first, self.last, self.left = first, max(last, first + 1), left
+
+    def shows(self, *times: Optional[int]) -> bool:
+        """Whether all these times are known and in the picture."""
+        return all(time is not None and self.first <= time <= self.last for time in times)
+
+    def place(self, time: int) -> float:
+        """The points from the left."""
+        time = min(max(time, self.first), self.last)
+        return self.left + (time - self.first) / (self.last - self.first) * (WIDTH - self.left - RIGHT)
+
+    def x(self, time: int) -> str:
+        """The same as text."""
+        return f"{self.place(time):.1f}"
+
+    def ticks(self) -> Iterator[int]:
+        """Some eight round times."""
+        rough = max((self.last - self.first) / 8, 1)
+        power = 10 ** int(math.log10(rough))
+        step = next(power * factor for factor in (1, 2, 5, 10) if power * factor >= rough)
+        yield from range(-(-self.first // step) * step, self.last + 1, step)
+
+
+def line(kind: str, x1: str, y1: float, x2: str, y2: float) -> str:
+    """A line from one place to another."""
+    return f'<line class="{kind}" x1="{x1}" y1="{y1:.1f}" x2="{x2}" y2="{y2:.1f}"/>'
+
+
+def deadline(x: float, y: float) -> str:
+    """A deadline: a bracket that closes."""
+    return f'<path class="deadline" d="M{x - 4:.1f} {y - 8:.1f}h4v16h-4"/>'
+
+
+def miss(x: float, y: float) -> str:
+    """A miss: a cross."""
+    return f'<path class="miss" d="M{x - 4:.1f} {y - 4:.1f}l8 8m0 -8l-8 8"/>'
+
+
+class Labels:
+    """Leaves out a label that would cover the one before it on its line."""
+
+    def __init__(self) -> None:
+        self.end = -math.inf
+
+    def place(self, x: float, y: float, text: str) -> str:
+        """The label, or nothing."""
+        if x < self.end:
+            return ""
+        self.end = x + 6 + SMALL_SIGN * len(text)
+        return f'<text x="{x:.1f}" y="{y:.1f}" class="small" dx="4">{text}</text>'
+
+
+def single(unit: Unit, firing: Firing, scale: Scale, labels: Labels) -> Iterator[str]:
+    """A firing: hollow at the time of the event, filled at the reading, a bar between, its deadline and its value."""
+    y = unit.height
+    if scale.shows(firing.deadline):
+        yield deadline(scale.place(firing.deadline), y)
+    times = firing.time, firing.reading
+    if max(times) < scale.first or min(times) > scale.last:
+        return
+    kind = "late" if firing.missed else "early" if firing.reading < firing.time else "later"
+    title = escape(f"{unit.label} at {firing.time}.{firing.step}, fired at the reading {firing.reading}" + ("" if firing.value is None else f", value {firing.value}"))
+    yield f'<g class="{kind}"><title>{title}</title>' + line("wait", scale.x(firing.time), y, scale.x(firing.reading), y)
+    if scale.shows(firing.time):
+        yield f'<circle class="event" cx="{scale.x(firing.time)}" cy="{y:.1f}" r="3.2"/>'
+    if scale.shows(firing.reading):
+        yield miss(scale.place(firing.reading), y) if firing.missed else f'<circle class="acted" cx="{scale.x(firing.reading)}" cy="{y:.1f}" r="3.2"/>'
+    if firing.value is not None and unit.shows_values() and scale.shows(max(times)):
+        yield labels.place(scale.place(max(times)), y - 9, str(firing.value))
+    yield "</g>"
+
+
+def crowds(firings: list[Firing], scale: Scale, most: int) -> tuple[list[Firing], list[list[Firing]]]:
+    """The firings that are drawn singly, and those that are drawn as bands."""
+    if len(firings) > most:
+        return [], [firings]
+    groups: list[list[Firing]] = []
+    for firing in sorted(firings):
+        if groups and scale.place(firing.time) - scale.place(groups[-1][-1].time) < NEAR:
+            groups[-1].append(firing)
+        else:
+            groups.append([firing])
+    return [firing for group in groups if len(group) < CROWD for firing in group], [group for group in groups if len(group) >= CROWD]
+
+
+def band(unit: Unit, firings: list[Firing], scale: Scale, width: int) -> Iterator[str]:
+    """Many firings: in each column the range of their values, within that of all; below it a mark if one was missed."""
+    values = [firing.value for firing in firings if firing.value is not None]
+    low, high = (min(values), max(values)) if values else (0, 0)
+    columns: dict[int, list[Firing]] = {}
+    for firing in firings:
+        columns.setdefault(int(scale.place(firing.time) // width), []).append(firing)
+    missed = sum(firing.missed for firing in firings)
+    says = f"{unit.label}: {len(firings):,} events from {min(firings).time} to {max(firings).time}"
+    says += (f", values {low} to {high}" if values else "") + (f", {missed:,} missed" if missed else "")
+
+    def height(value: Optional[int]) -> float:
+        return unit.height + (0 if value is None or low == high else 8 - 16 * (value - low) / (high - low))
+
+    def stroke(column: int, found: list[Firing]) -> str:
+        # An event that gives no value, as of a limit that isn't passed, is in the middle only if it is alone.
+        heights = [height(firing.value) for firing in found if firing.value is not None] or [unit.height]
+        top, bottom = min(heights) - 0.7, max(heights) + 0.7
+        return f"M{column * width + width / 2:g} {top:.1f}V{bottom:.1f}"
+
+    yield f"<g><title>{escape(says)}</title>"
+    yield f'<path class="band" stroke-width="{width}" d="{"".join(stroke(*each) for each in sorted(columns.items()))}"/>'
+    late = [column for column, found in sorted(columns.items()) if any(firing.missed for firing in found)]
+    if late:
+        yield f'<path class="miss" d="{"".join(f"M{column * width + width / 2:g} {unit.height + 9:.1f}v3" for column in late)}"/>'
+    yield "</g>"
+
+
+class Picture:
+    """The timeline of all platforms and units from the one time to the other."""
+
+    def __init__(self, recording: Recording, first: Optional[int], last: Optional[int]):
+        self.recording, self.units = recording, units_of(recording)
+        times = [time for unit in self.units for firing in unit.firings for time in (firing.time, firing.reading)]
+        # A name and, smaller, a kind are on the left of each line.
+        left = max([30 + SIGN * len(unit.label) + SMALL_SIGN * len(unit.actor["kind"]) for unit in self.units], default=0)
+        self.scale = Scale(min(times, default=0) if first is None else first, max(times, default=1) if last is None else last, max(left, 190))
+        self.top = TOP + 10 * (recording.zero is not None)
+        self.heights: dict[str, float] = {}
+        self.crowded: set[str] = set()
+
+    def frames(self) -> Iterator[str]:
+        """Places the units from above to below; gives the frames of the platforms and their axes."""
+        y = float(self.top)
+        for platform in self.recording.graph["platforms"]:
+            top = y
+            y += 18
+            for unit in self.units:
+                if unit.actor["platform"] == platform:
+                    unit.height = y + HEIGHT / 2
+                    y += HEIGHT
+            yield f'<rect class="frame" x="4" y="{top}" width="{WIDTH - 8}" height="{y - top}" rx="6"/>'
+            yield f'<text class="platform" x="10" y="{top + 13}">{platform}</text>'
+            y += 10
+        self.bottom = y
+        self.heights = {unit.actor["name"]: unit.height for unit in reversed(self.units)}
+        for tick in self.scale.ticks():
+            yield line("grid", self.scale.x(tick), self.top - 6, self.scale.x(tick), y - 10)
+            yield f'<text class="small" x="{self.scale.x(tick)}" y="{self.top - 12 - 10 * (self.recording.zero is not None)}" text-anchor="middle">{tick:,}</text>'
+            yield self.wall(tick)
+
+    def wall(self, tick: int) -> str:
+        """The wall time of a time, if it is known."""
+        if self.recording.zero is None:
+            return ""
+        text = wall_time.text_of(self.recording.zero + Fraction(tick, 10**6)).split("T")[1].rstrip("Z")
+        return f'<text class="small" x="{self.scale.x(tick)}" y="{self.top - 12}" text-anchor="middle">{text}</text>'
+
+    def caption(self) -> Iterator[str]:
+        """What the axes show."""
+        zero = self.recording.zero
+        yield f'<text class="small" x="10" y="{self.top - 12 - 10 * (zero is not None)}">microseconds</text>'
+        if zero is not None:
+            day = wall_time.text_of(zero + Fraction(self.scale.first, 10**6)).split("T")[0]
+            yield f'<text class="small" x="10" y="{self.top - 12}">{day}, UTC</text>'
+
+    def messages(self) -> Iterator[str]:
+        """A dashed line for each message, from the reading at which it was sent to the one at which it was taken; near ones are one."""
+        peers = {link["from"]: link["to"] for link in self.recording.graph["links"]}
+        taken = {(entry.actor, entry.time, entry.step): entry.reading for entry in self.recording.entries if entry.what == "take"}
+        drawn = set()
+        for entry in self.recording.entries:
+            arrived = taken.get((peers[entry.actor], entry.time, entry.step)) if entry.what == "sent" else None
+            if arrived is None or not self.scale.shows(entry.reading, arrived):
+                continue
+            near = entry.actor, int(self.scale.place(entry.reading) // NEAR), int(self.scale.place(arrived) // NEAR)
+            if near not in drawn or entry.actor not in self.crowded:
+                drawn.add(near)
+                yield line("message many" if entry.actor in self.crowded else "message", self.scale.x(entry.reading), self.heights[entry.actor], self.scale.x(arrived), self.heights[peers[entry.actor]])
+
+    def unit(self, unit: Unit, most: int, width: int) -> Iterator[str]:
+        """The line of a unit."""
+        kind = f'<tspan class="small">{unit.actor["kind"]}</tspan>'
+        yield f'<text x="16" y="{unit.height + 4:.1f}">{unit.label} {kind}</text>'
+        inside = [firing for firing in unit.firings if any(map(self.scale.shows, (firing.time, firing.reading, firing.deadline)))]
+        singles, many = crowds(inside, self.scale, most)
+        labels = Labels()
+        for firings in many:
+            self.crowded.add(unit.actor["name"])
+            yield from band(unit, [firing for firing in firings if self.scale.shows(firing.time)] or firings, self.scale, width)
+        for firing in singles:
+            yield from single(unit, firing, self.scale, labels)
+
+    def rows(self) -> Iterator[str]:
+        """When rows were seen, of sensors whose rows aren't a band."""
+        for entry in self.recording.entries:
+            if entry.what == "row" and self.scale.shows(entry.seen) and entry.actor not in self.crowded:
+                y = self.heights[entry.actor]
+                yield line("seen", self.scale.x(entry.seen), y - 7, self.scale.x(entry.seen), y + 7)
+
+    def legend(self, drawn: str, width: int) -> Iterator[str]:
+        """What the signs are that are in the picture, each drawn once more."""
+        items = [('class="event"', '<circle class="event key" cx="{x}" cy="{y}" r="3.2"/>', "time of the event"),
+                 ('class="acted"', '<circle class="acted key" cx="{x}" cy="{y}" r="3.2"/>', "reading of the platform's clock at which it fired"),
+                 ('class="early"', '<circle cx="{x}" cy="{y}" r="3.2" fill="#16a34a"/>', "fired before that time"),
+                 ('class="deadline"', '<path class="deadline key" d="M{x} {y}m-4 -5h4v10h-4"/>', "deadline"),
+                 ('class="miss"', '<path class="miss key" d="M{x} {y}m-3 -3l6 6m0 -6l-6 6"/>', "fired past its deadline; below a band a mark"),
+                 ('class="seen"', '<path class="seen key" d="M{x} {y}m0 -5v10"/>', "row seen"),
+                 ('class="message', '<path class="message key" d="M{x} {y}m-5 0h12"/>', "message"),
+                 ('class="band"', '<path class="band key" stroke-width="6" d="M{x} {y}m0 -4v8"/>',
+                  f"many events: the range of their values in each {width} points, on the scale of their line; their deadlines and rows seen are left out")]
+        x, y = 16.0, self.bottom + 8
+        for kind, sign, text in items:
+            if kind in drawn:
+                if x + 12 + SMALL_SIGN * len(text) > WIDTH - 10 and x > 16:
+                    x, y = 16.0, y + 13
+                yield sign.format(x=f"{x:.1f}", y=f"{y:.1f}") + f'<text class="small" x="{x + 8:.1f}" y="{y + 3:.1f}">{text}</text>'
+                x += 28 + (SMALL_SIGN - 0.9) * len(text)
+        self.end = y + 14
+
+    def text(self) -> str:
+        """The picture."""
+        frames = [*self.frames(), *self.caption()]
+        most = min(MOST_ON_A_LINE, MOST_SINGLE // max(1, len(self.units)))
+        width = max(2, -(-WIDTH * len(self.units) // MOST_COLUMNS))
+        units = [part for unit in self.units for part in self.unit(unit, most, width)]
+        # Units come first, which says whose events are crowded; messages are drawn below them.
+        lines = [*frames, *self.messages(), *units, *self.rows()]
+        lines += self.legend("\n".join(lines), width)
+        size = f'width="{WIDTH}" height="{self.end:.0f}" viewBox="0 0 {WIDTH} {self.end:.0f}"'
+        head = [f'<svg xmlns="http://www.w3.org/2000/svg" {size}>', f"<style>{STYLE}</style>", '<rect width="100%" height="100%" fill="#fff"/>']
+        return "\n".join(filter(None, [*head, *lines, "</svg>"])) + "\n"
+
+
+def svg_text(recording: Recording, first: Optional[int], last: Optional[int]) -> str:
+    """The timeline from the one time to the other."""
+    return Picture(recording, first, last).text()
