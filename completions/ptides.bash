@@ -11,6 +11,47 @@ _ptides_companions() { # WORD
     done
 }
 
+# Made by tools/make-companion-pages.py:
+_ptides_companion_options() { # NAME [KIND]
+    case $1 in
+        bench) echo '-h --help --version --junit --update --jobs --timeout --dask' ;;
+        dot) echo '-h --help --version' ;;
+        explain) echo '-h --help --version --line' ;;
+        lint) echo '-h --help --version --strict' ;;
+        probe) echo '-h --help --version' ;;
+        report) echo '-h --help --version -o --output --clock --zero --zone --title' ;;
+        rows)
+            case ${2-} in
+                candump) echo '-h --help --id --bytes --order --bits --signed --bus --period --phase --latency --last --scale --shift --round --zero --start --zone --from --to --row -o' ;;
+                can) echo '-h --help --id --bytes --order --bits --signed --bus --signals --raw --period --phase --latency --last --scale --shift --round --zero --start --zone --from --to --row --dbc -o' ;;
+                vcd) echo '-h --help --signal --signed --period --phase --latency --last --scale --shift --round --zero --start --zone --from --to --row -o' ;;
+                csv) echo '-h --help --period --phase --latency --last --scale --shift --round --zero --start --zone --from --to --row --stamp --unit --value --time --where --missing --preamble --skip --delimiter --decimal -o' ;;
+                air) echo '-h --help --sender --bus --sent-lag --received-lag --other-data --row -o' ;;
+                *) echo '-h --help --version' ;;
+            esac
+            ;;
+        timing) echo '-h --help --version --markdown --only' ;;
+        wave) echo '-h --help --version --clock --workers --vcd --csv --svg --trace --from --to --zero --wall --no-inner' ;;
+    esac
+}
+
+_ptides_companion_kinds() { # NAME
+    case $1 in
+        rows) echo 'candump can vcd csv air' ;;
+        wave | report) echo 'run replay' ;;
+        explain) echo 'run check meaning make migrate slacks audit replay' ;;
+    esac
+}
+# End of what is made.
+
+# The names of the actors of a graph, as seen from the folder that `-C` names.
+_ptides_actors() { # FOLDER GRAPH
+    (
+        unset CDPATH
+        cd -- "$1" 2>/dev/null && grep -o '"name" *: *"[A-Za-z][A-Za-z0-9_]*"' -- "$2" 2>/dev/null | sed 's/.*"\([^"]*\)"$/\1/'
+    )
+}
+
 # The graphs and folders that begin with the word, as seen from the folder that `-C` names; any files if there are none.
 _ptides_files() { # FOLDER WORD
     (
@@ -70,7 +111,7 @@ _ptides() {
         )
         compopt -o filenames 2>/dev/null
     elif [[ $command == help ]]; then
-        mapfile -t COMPREPLY < <(compgen -W "$(_ptides_companions "${COMP_WORDS[0]}")" -- "$current")
+        mapfile -t COMPREPLY < <(compgen -W "run check meaning make migrate slacks audit replay $(_ptides_companions "${COMP_WORDS[0]}")" -- "$current")
     elif [[ $before == --workers ]]; then
         mapfile -t COMPREPLY < <(compgen -W "$(seq 1 64)" -- "$current")
     elif [[ $before == --clock ]]; then
@@ -82,7 +123,7 @@ _ptides() {
             make) options=--workers ;;
             replay) options='--workers --log' ;;
             check | meaning | migrate | slacks | audit) ;;
-            *) options=-h ;;
+            *) options=$(_ptides_companion_options "$command" "${COMP_WORDS[first + 1]}") ;;
         esac
         for option in $options; do
             # Each is given at most once.
@@ -90,6 +131,27 @@ _ptides() {
                 COMPREPLY+=("$option")
             fi
         done
+    elif ((COMP_CWORD == first + 1)) && [[ $(_ptides_companion_kinds "$command") ]] &&
+        [[ $(compgen -W "$(_ptides_companion_kinds "$command")" -- "$current") || $command == rows ]]; then
+        mapfile -t COMPREPLY < <(
+            compgen -W "$(_ptides_companion_kinds "$command")" -- "$current"
+            [[ $command == rows ]] || _ptides_files "$folder" "$current"
+        )
+        compopt -o filenames 2>/dev/null
+    elif [[ $command == probe && $COMP_CWORD -gt $((first + 1)) ]]; then
+        mapfile -t COMPREPLY < <(compgen -W "$(_ptides_actors "$folder" "${COMP_WORDS[first + 1]}")" -- "$current")
+    elif [[ $command == bench ]]; then
+        mapfile -t COMPREPLY < <(
+            unset CDPATH
+            cd -- "$folder" 2>/dev/null && compgen -d -- "$current"
+        )
+        compopt -o filenames 2>/dev/null
+    elif [[ $command == rows || $before == -o || $before == --@(vcd|csv|svg|trace|junit|dbc) ]]; then
+        mapfile -t COMPREPLY < <(
+            unset CDPATH
+            cd -- "$folder" 2>/dev/null && compgen -f -- "$current"
+        )
+        compopt -o filenames 2>/dev/null
     elif [[ $command == make ]]; then
         mapfile -t COMPREPLY < <(compgen -W "$(seq 1 100)" -- "$current")
     elif [[ $command == audit || $command == replay ]] && _ptides_has_graph "$first"; then

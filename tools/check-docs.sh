@@ -4,9 +4,9 @@
 #
 # Of the text it reads what is in backticks and the targets of links. A file is looked up from the top, from the
 # document's folder, in crates/ and in each crate; `crate::path::name` has to be declared in that crate's src/. tools/check-clauses.py
-# looks up the clauses at the functions that are named with them, and tools/check-names.py the definitions; it also checks that no two
-# crates define one name. docs/ARCHITECTURE.md has a row for each crate, README.md and docs/TRUST.md name each library that the program
-# is built with, and docs/BLOCKS.md quotes the program of its example. The last line is `N passed, M failed`.
+# looks up the clauses at the functions that are named with them, and tools/check-names.py the definitions. docs/ARCHITECTURE.md
+# has a row for each crate, docs/TRUST.md names each library that the program is built with, and docs/BLOCKS.md quotes the program of
+# its example. The last line is `N passed, M failed`.
 # The back-quotes in the patterns are letters that are looked for.
 # shellcheck disable=SC2016
 set -u
@@ -128,10 +128,8 @@ while IFS= read -r crate; do
     judge docs/ARCHITECTURE.md "a row for $crate" $?
 done <<<"$crates"
 while IFS= read -r library; do
-    for document in README.md docs/TRUST.md; do
-        grep -qF -- "\`$library\`" "$document"
-        judge "$document" "the library $library" $?
-    done
+    grep -qF -- "\`$library\`" docs/TRUST.md
+    judge docs/TRUST.md "the library $library" $?
 done < <(sed 's/#.*//; s/^[^:]*://' crates.txt | tr -s ' ' '\n' | grep . | sort -u | grep -vxF -- "$crates")
 check_quotes docs/BLOCKS.md crates/slow_blocks/src
 tools/count-definitions.py --check

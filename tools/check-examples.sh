@@ -207,7 +207,8 @@ check_documents() {
     fi
     if ! is_there mandoc; then
         skip "docs/ptides.1, since mandoc isn't there"
-    elif mandoc -T lint docs/ptides.1; then
+    elif ! mandoc -T lint docs/ptides.1 | grep -v ' referenced manual not found: Xr ptides-'; then
+        # The manuals of the companions are found where all are installed; check-manuals.py sees to it that they are there.
         pass
     else
         fail 'docs/ptides.1: mandoc has something to say'

@@ -1,10 +1,10 @@
 #!/usr/bin/env python3
-"""Checks the names of definitions: each is in one crate only, and where the documents say that it is.
+"""Checks the names of definitions that documents cite: each is where the document says that it is.
 
     check-names.py [TOP]        of the project in the folder TOP, or of this one
 
-Definitions are what is in `crates/*/specs`. Two crates may not define the same name; operators may be defined twice, since an import says
-which is meant. Documents name definitions with their file, as in
+Definitions are what is in `crates/*/specs`. Two crates may define the same name, since an import says which is meant. Documents name
+definitions with their file, as in
 
     `NAME` in `FILE.antt`     `NAME`, `NAME` and `NAME` in `FILE.antt`     `NAME` (`FILE.antt`)     `NAME`, `FILE.antt`     **`FILE.antt`**, `NAME`
 
@@ -50,14 +50,6 @@ def definitions(top: Path) -> dict[str, list[Path]]:
         for name in read.parse_module("", str(file)).definitions:
             found[name].append(file.relative_to(top))
     return found
-
-
-def repeated(places: dict[str, list[Path]]) -> Iterator[str]:
-    """A line for each name that two crates define."""
-    for name, files in places.items():
-        firsts = {file.parts[1]: file for file in reversed(files)}
-        if len(firsts) > 1 and "◌" not in name:
-            yield f"{name} is defined in {' and in '.join(str(file) for file in sorted(firsts.values()))}: rename one of them"
 
 
 def quoted(text: str) -> list[str]:
@@ -115,12 +107,11 @@ def main() -> None:
         sys.exit("usage: check-names.py [TOP]")
     top = Path(sys.argv[1] if len(sys.argv) == 2 else HERE.parent).resolve()
     places = definitions(top)
-    twice = list(repeated(places))
     passed, lines = misplaced(top, places)
-    for line in twice + lines:
+    for line in lines:
         print(f"failed: {line}")
-    print(f"{len(places) - len(twice) + passed} passed, {len(twice) + len(lines)} failed")
-    sys.exit(1 if twice or lines else 0)
+    print(f"{passed} passed, {len(lines)} failed")
+    sys.exit(1 if lines else 0)
 
 
 if __name__ == "__main__":

@@ -5,9 +5,11 @@
 #     tools/install.sh --uninstall [PREFIX]   takes it out again
 #
 #   bin/ptides                               a link to the launcher
-#   lib/ptides                               the launcher, the program that ./ptides runs here, the companions (tools/), what
-#                                            `ptides --version` writes (version), and the list of all this (files)
-#   share/man/man1                           the manual page
+#   lib/ptides                               the launcher, the program that ./ptides runs here, the companions (tools/), the
+#                                            package that they use (python/), what `ptides --version` writes (version),
+#                                            and the list of all this (files)
+#   lib/python3.*/*-packages                 if there is one, a file `ptides.pth`, by which its Python finds the package
+#   share/man/man1                           the manual pages
 #   share/bash-completion/completions        the completion
 #   share/ptides                             the schemas
 #   share/doc/ptides                         the pages and the examples
@@ -91,6 +93,8 @@ remove_files() { # LIST: paths come on standard input
 # A folder goes if nothing else is in it.
 remove_folders() { # LIST
     local path
+    # What Python keeps of the modules that it has read.
+    rm -rf -- "$prefix"/lib/ptides/python/ptides/__pycache__ "$prefix"/lib/ptides/python/ptides/*/__pycache__
     while IFS= read -r path; do
         rmdir -- "$prefix/${path#.}" 2>/dev/null || true
     done < <(folders_of "$1" | sort -r)
@@ -111,7 +115,7 @@ put() { # SOURCE TARGET
 
 # All as it will be, below $work/stage.
 stage() {
-    local version program page companion
+    local version program page companion packages
     version=$(./ptides --version) || exit 1
     program=$(sed -n 's/^program \(.*\),.*/\1/p' <<<"$version")
     [ -n "$program" ] || fail 'there is no program of these sources yet; ./ptides builds it'
@@ -121,14 +125,21 @@ stage() {
     for companion in tools/ptides-*; do
         [[ ${companion##*/ptides-} == *[!a-z0-9-]* || ! -x $companion ]] || put "$companion" "lib/ptides/$companion"
     done
+    while IFS= read -r page; do put "$page" "lib/ptides/$page"; done < <(find python -name __pycache__ -prune -o -type f -print)
+    for packages in "$prefix"/lib/python3.*/{site,dist}-packages; do
+        [ -d "$packages" ] || continue
+        page=$work/stage/${packages#"$prefix"/}
+        { mkdir -p -- "$page" && printf '%s\n' "$prefix/lib/ptides/python" >"$page/ptides.pth"; } || exit 1
+    done
     mkdir -p "$work/stage/bin"
     ln -s ../lib/ptides/ptides "$work/stage/bin/ptides"
     put docs/ptides.1 share/man/man1/ptides.1
+    for page in docs/man/*.1; do put "$page" "share/man/man1/${page##*/}"; done
     put completions/ptides.bash share/bash-completion/completions/ptides
     put schemas/graph.schema.json share/ptides/graph.schema.json
     put schemas/air.csv-metadata.json share/ptides/air.csv-metadata.json
     for page in README.md CHANGELOG.md LICENSE* docs/*; do
-        [ "$page" = docs/ptides.1 ] || put "$page" "share/doc/ptides/$page"
+        [ "$page" = docs/ptides.1 ] || [ "$page" = docs/man ] || put "$page" "share/doc/ptides/$page"
     done
     put examples share/doc/ptides/examples
     chmod -R u=rwX,go=rX "$work/stage"
@@ -198,6 +209,7 @@ say_what_next() {
         /usr | /usr/local | "${HOME-}/.local") ;;
         *) printf 'for completion: . %q\n' "$prefix/share/bash-completion/completions/ptides" ;;
     esac
+    grep -q '/ptides\.pth$' "$prefix/$list" || printf 'for import ptides: export PYTHONPATH=%q\n' "$prefix/lib/ptides/python"
 }
 
 make_work

@@ -61,7 +61,7 @@ class Case:
 
     def __init__(self, tester, folder, data):
         self.tester, self.folder, self.graph, self.log = tester, folder, Graph(tester, folder), Log(data)
-        self.told = Reader(self.graph).told(self.log)
+        self.contents = Reader(self.graph).contents(self.log)
         self.same = self.refused = 0
 
     def judge(self, what, data, certain):
@@ -82,7 +82,7 @@ class Case:
     def accepted(self, data, certain):
         if certain:
             return "no lawful log has these bytes"
-        return None if Reader(self.graph).told(Log(data)) == self.told else "it is lawful, and says something else"
+        return None if Reader(self.graph).contents(Log(data)) == self.contents else "it is lawful, and says something else"
 
     def verdict(self, log, why):
         """What is wrong with this verdict; none if the text of the log is as it says."""

@@ -260,7 +260,7 @@ for word in --help -h help; do
     start_alone "$word"
     expect "$word: status" 0 "$status"
     expect "$word: notes" '' "$(cat "$place/notes")"
-    expect "$word: commands" 'run check meaning make migrate slacks audit replay' \
+    expect "$word: commands" 'run check meaning make migrate slacks audit replay help' \
         "$(sed -n 's/^  \([a-z]*\) [A-Z].*/\1/p' "$place/output" | tr '\n' ' ' | sed 's/ $//')"
     for clock in paced step:START:STEP machine; do
         grep -q -e "\b$clock\b" "$place/output"
@@ -272,6 +272,29 @@ for word in --help -h help; do
         expect "$word: where $place_of is" 0 $?
     done
 done
+start_alone help run
+expect 'help on a command' '  run GRAPH                writes the events of each actuator' "$(head -n 1 "$place/output")"
+expect 'help on a command: its options' 1 "$(grep -c -e ' --clock CLOCK ' "$place/output")"
+expect 'help on a command: no other' 0 "$(grep -c -e '^  check GRAPH' "$place/output")"
+start_alone help show kind
+expect 'help on a part of a companion' "shown:2 kind -h by $place/repo/dist/ptides"$'\nfolder:caller' "$(cat "$place/output")"
+for word in shwo showw sho; do
+    start_alone help "$word"
+    expect "help on $word: status and output" '1 ' "$status $(cat "$place/output")"
+    expect "help on $word" "ptides: there is no command or companion \`$word\`; did you mean \`show\`?" "$(cat "$place/notes")"
+done
+for word in '' 'a b' ../tools/ptides-show something; do
+    start_alone help "$word"
+    expect "help on \"$word\"" "1 ptides: there is no command or companion \`$word\`; \`ptides help\` lists them" "$status $(cat "$place/notes")"
+done
+for word in shwo chekc; do
+    PROGRAM_STATUS=1 start_alone "$word" x
+    expect "did you mean, for $word: the program answers first" "1 shipped:2 $word x" "$status $(cat "$place/output")"
+    expect "did you mean, for $word" 1 "$(grep -c -x -F -e "ptides: there is no command or companion \`$word\`; did you mean \`show\`?" \
+        -e "ptides: there is no command or companion \`$word\`; did you mean \`check\`?" "$place/notes")"
+done
+PROGRAM_STATUS=1 start_alone run x
+expect 'a command that fails has no hint' '' "$(cat "$place/notes")"
 start_alone help show
 expect 'help of a companion' "shown:1 -h by $place/repo/dist/ptides"$'\nfolder:caller' "$(cat "$place/output")"
 expect 'help of a companion: its status' 9 "$status"

@@ -339,7 +339,7 @@ test_scripts() {
         skip 'shellcheck, since it is not there'
     fi
     expect 'the version is three numbers' 1 "$(grep -cxE '[0-9]+\.[0-9]+\.[0-9]+' VERSION)"
-    expect 'the first release of CHANGELOG.md' "## $(cat VERSION)" "$(grep -m 1 '^## ' CHANGELOG.md)"
+    expect 'the first release of CHANGELOG.md' "## $(cat VERSION)" "$(grep -m 1 '^## [0-9]' CHANGELOG.md)"
 }
 
 test_scripts

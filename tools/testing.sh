@@ -5,6 +5,8 @@
 # shellcheck disable=SC2034,SC2154
 
 . "${here%/*}/common.sh"
+# What is tested is which program the launcher gives to companions, if the caller names none.
+unset PTIDES
 # What is on the path can't have a colon.
 case ${TMPDIR-} in
     *:*) TMPDIR=/tmp ;;

@@ -149,14 +149,54 @@ check_update() {
     # A program that surely takes longer.
     printf '#!/bin/sh\nexec sleep 60\n' >endless
     chmod +x endless
-    refuses_after_plan "update: no end" "planted/as_it_is: nothing is stored: no end within 0.2 seconds" \
-        env PTIDES=./endless "$bench" --update planted/as_it_is --timeout 0.2
+    cp -r planted/as_it_is endless.before
+    PTIDES=./endless "$bench" --update planted/as_it_is --timeout 0.2 >found
+    equal "update: no end" '1   message: "no end within 0.2 seconds"' "$? $(grep message found)"
+    if diff -r endless.before planted/as_it_is; then pass; else fail "update: no end, and something is stored"; fi
 }
 
-# refuses_after_plan WHAT LINE COMMAND..: as refuses, after the first two lines of the report.
-refuses_after_plan() {
-    "${@:3}" >refused.out 2>refused.notes
-    equal "$1" "1 ptides bench: $2 1..1" "$? $(<refused.notes) $(tail -n 1 refused.out)"
+# A scenario that can't be used, a program that is ended by a signal, and one that takes too long: each is an error of its scenario,
+# and all others are run.
+check_errors() {
+    local each
+    rm -rf campaign
+    mkdir campaign
+    for each in a b c d e; do copy "$top/examples/basic" "campaign/$each"; done
+    rm campaign/*/expected.log campaign/*/expected.check
+    echo bad >campaign/b/status
+    : >campaign/c/words
+    echo 'out,150,0,15' >>campaign/d/expected.csv
+    "$bench" campaign --junit campaign.xml >found 2>notes
+    equal "a malformed scenario: status and notes" "1 " "$? $(<notes)"
+    equal "a malformed scenario: the others are run" "ok 1 - campaign/a, not ok 2 - campaign/b, not ok 3 - campaign/c, not ok 4 - campaign/d, ok 5 - campaign/e" \
+        "$(grep -E '^(not )?ok' found | paste -sd , | sed 's/,/, /g')"
+    equal "a malformed scenario: its message" '  message: "campaign/b/status: `bad` is no status"' "$(grep -m 1 message found)"
+    equal "a malformed scenario: the counts" 'tests="5" failures="1" errors="2"' "$(grep -o 'tests="5" failures="1" errors="2"' campaign.xml | head -n 1)"
+    equal "a malformed scenario: elements" "2 1" "$(grep -c '<error ' campaign.xml) $(grep -c '<failure ' campaign.xml)"
+    "$bench" campaign --update >found
+    equal "a malformed scenario isn't stored over" "1 bad" "$? $(<campaign/b/status)"
+    printf '#!/bin/sh\nkill -SEGV $$\n' >ended
+    printf '#!/bin/sh\nexit 70\n' >none_to_run
+    chmod +x ended none_to_run
+    PTIDES=./ended "$bench" campaign/a --junit ended.xml >found
+    equal "ended by a signal" '1   message: "the program was ended by signal 11 (Segmentation fault)" 1' \
+        "$? $(grep message found) $(grep -c '<error ' ended.xml)"
+    PTIDES=./none_to_run "$bench" campaign/a --junit ended.xml >found
+    equal "no program behind the launcher" '1 1' "$? $(grep -c '<error ' ended.xml)"
+    PTIDES=./endless "$bench" campaign/a --timeout 0.2 --junit ended.xml >found
+    equal "no end" '1 1' "$? $(grep -c '<error message="no end within 0.2 seconds"' ended.xml)"
+}
+
+# Of many misses there is one line that sums them up.
+check_misses() {
+    rm -rf many
+    copy "$top/examples/missed" many
+    { echo time,seen,value; seq -f '%.0f' 1000 1000 60000 | sed 's/.*/&,&,90/'; } >many/pressure.csv
+    sed -i 's/"until":[0-9]*/"until":70000/' many/graph.json
+    rm -f many/expected.* many/status
+    "$bench" many >found
+    equal "many misses: a summary" "$(grep -c '^missed' <(cd many && "$PTIDES" run graph.json 2>&1)) events were missed, all by \`valve\`" \
+        "$(sed -n 's/^  missed: "\(.*\); the first at .*/\1/p' found)"
 }
 
 # A program that takes a second, and counts how many of it run at a time.
@@ -181,7 +221,7 @@ SLOW
     equal "one after the other" 1 "$(sort -n at_a_time | tail -n 1)"
     same "side by side: the same report" found again
     PTIDES=./slow "$bench" four/1 --timeout 0.2 >found
-    equal "a command without an end" '1   message: "status line 1: expected `0`, found `-1 (no end within 0.2 seconds)`"' "$? $(grep message found)"
+    equal "a command without an end" '1   message: "no end within 0.2 seconds"' "$? $(grep message found)"
 }
 
 check_refusals() {
@@ -194,10 +234,10 @@ check_refusals() {
     equal "no folder for the XML" "ptides bench: cannot write none/a.xml: No such file or directory" \
         "$("$bench" four/1 --junit none/a.xml 2>&1 >/dev/null)"
     cp -r four/1 empty/one && echo x >empty/one/status
-    refuses "no status" "ptides bench: empty/one/status: \`x\` is no status" "$bench" empty
+    equal "no status" '  message: "empty/one/status: `x` is no status"' "$("$bench" empty | grep message)"
     printf 'wave\ngraph.json\n' >empty/one/words
-    refuses "a companion" "ptides bench: empty/one/words: \`wave\` is no command of ptides: the first word has to be one of run, check, meaning, make, migrate, slacks, audit, replay" \
-        "$bench" empty
+    equal "a companion" '  message: "empty/one/words: `wave` is no command of ptides: the first word has to be one of run, check, meaning, make, migrate, slacks, audit, replay"' \
+        "$("$bench" empty | grep message)"
     [ ! -e /dev/full ] || equal "a full disk" "ptides bench: cannot write standard output: No space left on device" "$("$bench" four/1 2>&1 >/dev/full)"
 }
 
@@ -219,16 +259,19 @@ check_dask() {
     done
     for each in python3 /usr/bin/python3; do
         if is_there "$each" && ! "$each" -c 'import distributed' 2>/dev/null; then
-            refuses "no dask" "ptides bench: --dask needs dask.distributed, which this Python does not have (Debian: apt-get install python3-distributed)" \
-                "$each" "$bench" four --dask tcp://127.0.0.1:1
+            "$each" "$bench" four --dask tcp://127.0.0.1:1 >found 2>notes
+            equal "no dask: which Python has none" "1 1" "$? $(grep -c "^ptides bench: --dask needs the module distributed, which this Python, $("$each" -c 'import sys; print(sys.executable)') " notes)"
         fi
     done
     [ -n "$python" ] || { skip "dask, since there is no dask.distributed"; return; }
     address=tcp://127.0.0.1:$port
     "$python" "$bench" four --dask "$address" >found 2>notes
-    equal "dask: no scheduler" "1 ptides bench: no dask scheduler at $address" "$? $(cut -d : -f 1-4 notes)"
+    equal "dask: no scheduler" "1 ptides bench: no dask scheduler at $address: Connection refused" "$? $(<notes)"
+    "$python" "$bench" four --dask foo >found 2>notes
+    equal "dask: no address" "1 ptides bench: --dask: \`foo\` is no address of a scheduler, as tcp://127.0.0.1:8786" "$? $(<notes)"
     "$python" -m distributed.cli.dask_scheduler --host 127.0.0.1 --port "$port" --no-dashboard >scheduler.txt 2>&1 &
     started=($!)
+    check_without_workers "$python" "$address"
     for each in 1 2; do
         "$python" -m distributed.cli.dask_worker "$address" --nthreads 1 --no-nanny --no-dashboard --name "w$each" --host 127.0.0.1 >"worker$each.txt" 2>&1 &
         started+=($!)
@@ -240,6 +283,21 @@ check_dask() {
     fi
     check_the_cluster "$python" "$address"
     stop_all
+}
+
+# A scheduler without a worker: that is said at once, and the campaign begins with the first worker.
+check_without_workers() { # PYTHON ADDRESS
+    local bench_id worker_id
+    wait_for "$1" -c "import socket; socket.create_connection(('127.0.0.1', ${2##*:}))"
+    "$1" "$bench" planted/as_it_is --dask "$2" >found 2>notes &
+    bench_id=$!
+    if wait_for grep -q "^ptides bench: the dask scheduler at $2 has no worker: waiting for one, 60 seconds at most$" notes; then pass; else fail "dask: no worker, and no line"; fi
+    "$1" -m distributed.cli.dask_worker "$2" --nthreads 1 --no-nanny --no-dashboard --host 127.0.0.1 >worker0.txt 2>&1 &
+    worker_id=$!
+    wait "$bench_id"
+    equal "dask: the first worker comes late" "0 ok 1 - planted/as_it_is" "$? $(tail -n 1 found)"
+    kill -9 "$worker_id"
+    wait "$worker_id" 2>/dev/null
 }
 
 check_the_cluster() { # PYTHON ADDRESS
@@ -275,10 +333,12 @@ plant_again() { rm -rf planted; plant; }
 check_update
 plant_again
 check_side_by_side
+check_errors
+check_misses
 check_refusals
 check_dask
 if "$bench" -h | grep -q '^example:'; then pass; else fail "-h has no example"; fi
 if python3 -c 'import ast, sys; ast.parse(open(sys.argv[1]).read(), feature_version=(3, 9))' "$bench"; then pass; else fail "not for Python 3.9"; fi
-page docs/BENCH.md .
+page docs/SCENARIOS.md .
 page examples/stand/README.md examples/stand
 finish

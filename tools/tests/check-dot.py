@@ -37,6 +37,15 @@ class Dot(Case):
                 drawn = [picture.output.count('<g id="clust'), picture.output.count('<g id="node')]
                 self.assertEqual((picture.status, drawn), (0, wanted[:2]))
 
+    def test_one_row(self) -> None:
+        """A machine of one row has one row, and one of two has two."""
+        rows = [{"state": 0, "low": 0, "high": 1, "next": 0, "emit": None}]
+        for number, words in ((1, "machine, 1 row\""), (2, "machine, 2 rows\""), (0, "machine, 0 rows\"")):
+            actors = [{"name": "e", "platform": "p", "kind": "every", "start": 0, "period": 9},
+                      {"name": "m", "platform": "p", "kind": "machine", "start": 0, "outputs": 1, "rows": rows * number}]
+            graph = {"ptides": 1, "until": 9, "clock_error": 0, "platforms": ["p"], "actors": actors, "wires": [["e", 0, "m", 0]], "links": []}
+            self.assertIn(words, companion("dot", "/dev/stdin", folder=EXAMPLES, given=json.dumps(graph)).output)
+
     def test_labels(self) -> None:
         """What the labels of three examples say."""
         cases = {"governor": ['label="up\\nsend\\nslack 0 us\\noffset -300\\nmargin 299"', 'label="hold\\ndelay 500 us\\noffset 200"',

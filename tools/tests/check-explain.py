@@ -2,6 +2,7 @@
 """Checks `ptides explain`: the refused examples, a table of mistakes, command lines, files, and random edits."""
 from __future__ import annotations
 
+import json
 import os
 import random
 import re
@@ -255,6 +256,75 @@ class Explain(Case):
                 if program.status:
                     self.assertTrue(done.output.startswith(f"error: {program.notes}"), done.output)
                     self.assertTrue(first_place(done.output)[0], done.output)
+
+    def test_which_horizon_fits(self) -> None:
+        """Of a run that is too long the horizon that fits, by which the program then goes; with more than that it refuses."""
+        actors = [{"name": "level", "platform": "tank", "kind": "sensor", "file": "level.csv", "bound": 9}]
+        actors += [{"name": f"by_{number}", "platform": "tank", "kind": "shift", "by": 1} for number in range(13)]
+        actors.append({"name": "out", "platform": "tank", "kind": "actuator", "slack": 10})
+        wires = [[start["name"], 0, end["name"], 0] for start, end in zip(actors, actors[1:])]
+        graph = {"ptides": 1, "until": 86_400_000_000, "clock_error": 0, "platforms": ["tank"], "actors": actors, "wires": wires, "links": []}
+        (self.folder / "level.csv").write_text("time,seen,value\n" + "".join(f"{second}000000,{second}000005,1\n" for second in range(86_400)))
+        (self.folder / "graph.json").write_text(json.dumps(graph))
+        done = companion("explain", "graph.json", folder=self.folder)
+        # 13,333 events of 15 firings each are 199,995.
+        self.assertIn("lower `until` from 86400000000 (24 h) to 13332999999 (3 h 42 min): then `run` makes 199,995 firings on `tank`", done.output)
+        for until, status in ((13_332_999_999, 0), (13_333_000_000, 6)):
+            (self.folder / "graph.json").write_text(json.dumps({**graph, "until": until}))
+            self.assertEqual(ptides("run", "graph.json", folder=self.folder).status, status)
+
+    def test_a_horizon_of_growing_firings(self) -> None:
+        """If later events make more firings than earlier ones, a horizon that fits is found still."""
+        actors = [{"name": "e", "platform": "p", "kind": "every", "start": 0, "period": 10_000}, {"name": "m", "platform": "p", "kind": "merge", "n": 3},
+                  {"name": "d", "platform": "p", "kind": "delay", "d": 507}, {"name": "f", "platform": "p", "kind": "delay", "d": 3331},
+                  {"name": "out", "platform": "p", "kind": "actuator", "slack": 10}]
+        wires = [["e", 0, "m", 0], ["m", 0, "d", 0], ["d", 0, "m", 1], ["m", 0, "f", 0], ["f", 0, "m", 2], ["m", 0, "out", 0]]
+        graph = {"ptides": 1, "until": 10**8, "clock_error": 0, "platforms": ["p"], "actors": actors, "wires": wires, "links": []}
+        done = companion("explain", "/dev/stdin", folder=self.folder, given=json.dumps(graph))
+        until = int(re.search(r" to (\d+) \(", done.output)[1])
+        self.assertEqual(ptides("run", "/dev/stdin", folder=self.folder, given=json.dumps({**graph, "until": until})).status, 0)
+        self.assertEqual(ptides("run", "/dev/stdin", folder=self.folder, given=json.dumps({**graph, "until": 2 * until})).status, 6)
+
+    def test_lines_that_do_not_hold(self) -> None:
+        """A line on a row that isn't late, isn't out of order or was another one, and on an event that wasn't missed, isn't explained."""
+        folder = EXAMPLES / "refused" / "late_row"
+        self.assertIn("seen 11 after", companion("explain", "--line", "late s row 2, seen 71 past 70", "graph.json", folder=folder).output)
+        lines = ["late s row 1, seen 50 past 60", "late s row 2, seen 72 past 70", "late s row 2, seen 71 past 71", "sensor s: time order at row 2",
+                 "sensor s: seen order at row 2", "sensor s: seen early at row 2", "sensor s: number at row 2"]
+        for line in lines:
+            with self.subTest(line=line):
+                done = companion("explain", "--line", line, "graph.json", folder=folder)
+                self.assertEqual((done.status, first_place(done.output)), (0, ("", "")))
+                self.assertIn("the files don't have this fault now", done.output)
+        for line in ("missed valve at 4000.0, reading 4401 past 4301", "missed valve at 4000.0, reading 4300 past 4300"):
+            with self.subTest(line=line):
+                self.assertIn("don't have this fault", companion("explain", "--line", line, "graph.json", folder=EXAMPLES / "missed").output)
+
+    def test_a_graph_that_names_its_schema(self) -> None:
+        """`$schema` is no member, and the help says where an editor is told of the schema, which has an `$id`."""
+        folder = self.edited("graph.json", '"ptides"', '"$schema":"x","ptides"')
+        done = companion("explain", "check", "graph.json", folder=folder)
+        self.assertEqual((done.status, first_place(done.output)[1]), (2, '"$schema"'))
+        self.assertIn("the settings of an editor name the schema, as docs/GRAPHS.md shows", done.output)
+        settings = json.loads(re.search(r'^\{"json.schemas": .*', (TOP / "docs" / "GRAPHS.md").read_text(), re.M)[0])
+        schema = json.loads((TOP / settings["json.schemas"][0]["url"]).read_text())
+        self.assertEqual(schema["$id"], "urn:ptides:graph")
+
+    def test_many_misses(self) -> None:
+        """Many misses are summed up: how many, the first and the worst. By a clock an event may be missed that the margin allows."""
+        folder = copied(EXAMPLES / "missed", self.folder)
+        rows = "".join(f"{time},{time},90\n" for time in range(1000, 61_000, 1000))
+        (folder / "pressure.csv").write_text("time,seen,value\n" + rows)
+        (folder / "graph.json").write_text(re.sub(r'"until":\d+', '"until":70000', (folder / "graph.json").read_text()))
+        notes = ptides("run", "graph.json", folder=folder).notes
+        done = companion("explain", "graph.json", folder=folder)
+        self.assertEqual(done.output.split("\n")[0], "error: " + notes.split("\n")[0])
+        self.assertGreater(notes.count("\n"), 5)
+        late = re.search(r"at (\S+), reading (\d+) past (\d+)", notes)
+        self.assertIn(f"help: {notes.count(chr(10))} events were missed, all by `valve`; the first at {late[1]}, {int(late[2]) - int(late[3])} us past", done.output)
+        done = companion("explain", "run", "graph.json", "--clock", "step:0:900", folder=EXAMPLES / "basic")
+        self.assertEqual(done.status, 5)
+        self.assertIn("by the paced clock `out` misses nothing; the clock of this run makes its platform look too seldom", done.output)
 
     def test_bad_input(self) -> None:
         """No words: one line and status 1."""

@@ -77,8 +77,8 @@ class Lint(Case):
                 self.assertEqual(self.lint(files).output, "no warnings\n")
 
     def test_examples(self) -> None:
-        """No warning in the examples, but for the deadline that can't be kept, the inputs that idiom `hold` mends, and the test
-        stand whose normal run gives no warning and needs no cooler."""
+        """No warning in the examples, but for the deadline that can't be kept, the inputs that idiom `hold` mends, and the actuators
+        that have nothing to do in a good run: the test stand gives no warning and needs no cooler, and the relay has no fault."""
         for example in GRAPHS:
             with self.subTest(example=example.name):
                 done = companion("lint", "graph.json", folder=example)
@@ -91,6 +91,8 @@ class Lint(Case):
                 elif example.name == "stand":
                     said = "graph.json:24: warning: `warning` has no event\ngraph.json:29: warning: `cooler` has no event\n2 warnings\n"
                     self.assertEqual((done.status, done.output), (0, said))
+                elif example.name == "relay":
+                    self.assertEqual((done.status, done.output), (0, "graph.json:22: warning: `fault` has no event\n1 warning\n"))
                 else:
                     self.assertEqual((done.status, done.output), (0, "no warnings\n"))
 

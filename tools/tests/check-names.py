@@ -1,5 +1,5 @@
 #!/usr/bin/env python3
-"""Checks tools/check-names.py on small projects: names that two crates define, and names that aren't where a document says."""
+"""Checks tools/check-names.py on small projects: names that aren't where a document says."""
 from __future__ import annotations
 
 import tempfile
@@ -36,15 +36,14 @@ class Names(Case):
         self.assertRegex(done.output.splitlines()[-1], r"^\d+ passed, 1 failed$")
 
     def test_good(self) -> None:
-        """A project without a fault: four names, two statements, and six names with a file. Operators may be defined twice; a document's code cites nothing."""
-        self.assertEqual(self.check(), Done(0, "12 passed, 0 failed\n", ""))
+        """A project without a fault: two statements, and six names with a file. A document's code cites nothing."""
+        self.assertEqual(self.check(), Done(0, "8 passed, 0 failed\n", ""))
 
     def test_twice(self) -> None:
-        """Both places are named."""
-        self.expect_line("Before is defined in crates/pt_one/specs/Tags.antt and in crates/pt_two/specs/Runs.antt: rename one of them",
-                         Runs=FILES["crates/pt_two/specs/Runs.antt"].replace("IsFirst", "Before"), A="")
-        self.expect_line("IsRun is defined in crates/pt_one/specs/Edges.antt and in crates/pt_two/specs/Runs.antt: rename one of them",
-                         Runs="pub data IsRun : Type 0 where\n", A="")
+        """Two crates may define one name: a document may cite either by its file."""
+        done = self.check(Runs=FILES["crates/pt_two/specs/Runs.antt"].replace("IsFirst", "IsRun"),
+                          A="`IsRun` in `pt_one/specs/Edges.antt`, `IsRun` in `pt_two/specs/Runs.antt`.\n")
+        self.assertEqual((done.status, done.notes), (0, ""))
 
     def test_places(self) -> None:
         """A name in another file, one that is nowhere, and one that a file only uses."""

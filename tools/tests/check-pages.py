@@ -1,5 +1,6 @@
 #!/usr/bin/env python3
-"""Checks that the commands on the page of the companions write what is shown there, and that each companion says what it gives."""
+"""Checks that the commands on the page of the companions write what is shown there, that each companion says what it gives, and that README
+has what a newcomer looks for."""
 from __future__ import annotations
 
 import re
@@ -8,6 +9,9 @@ import shlex
 from counted import TOP, Case, Done, companion, main, ptides
 
 PAGE = TOP / "docs" / "COMPANIONS.md"
+README = TOP / "README.md"
+# How often the actors of a platform may fire in a run.
+MOST_FIRINGS = 200_000
 
 
 def transcripts(text: str) -> list[tuple[str, list[str]]]:
@@ -59,6 +63,45 @@ class Pages(Case):
                 self.assertEqual((len(says), bool(path.stat().st_mode & 0o111)), (1, True))
                 name = path.name[len("ptides-"):]
                 self.assertEqual(table[name], says[0])
+
+
+def number(text: str) -> int:
+    """A number with commas, as the last one of a text."""
+    return int(text.split()[-1].replace(",", ""))
+
+
+class Readme(Case):
+    """What README has."""
+
+    def test_length(self) -> None:
+        """It is read at one sitting."""
+        self.assertLessEqual(len(README.read_text().split()), 1200)
+
+    def test_companions(self) -> None:
+        """Each companion has a row, and what people come for is named."""
+        text = README.read_text()
+        listed = re.findall(r"^\| `(\w+) [^`]+` \| ", text, re.M)
+        for path in (TOP / "tools").glob("ptides-*"):
+            with self.subTest(path=path.name):
+                self.assertIn(path.name[len("ptides-"):], listed)
+        for word in ("GTKWave", "pandas", "JUnit", "CAN"):
+            with self.subTest(word=word):
+                self.assertTrue(word in text)
+
+    def test_pages_to_start_with(self) -> None:
+        """Each is linked."""
+        for path in (TOP / "docs").glob("START-*.md"):
+            with self.subTest(path=path.name):
+                self.assertTrue(f"(docs/{path.name})" in README.read_text())
+
+    def test_limits(self) -> None:
+        """As many actors as the table says can fire for each sample, and no more."""
+        found = re.findall(r"^\| ([^|`]+) \| ([\d,]+) \| ([^|]*\d) \|$", README.read_text(), re.M)
+        self.assertGreater(len(found), 4)
+        for what, samples, actors in found:
+            parts = 4 if "four parts" in actors else 1
+            with self.subTest(what=what):
+                self.assertEqual(number(actors), MOST_FIRINGS * parts // number(samples))
 
 
 if __name__ == "__main__":

@@ -16,7 +16,7 @@ rows_are() {
     local what=$1 wanted=$2
     shift 2
     equal "$what" "time,seen,value $wanted" "$("$rows" "$@" 2>&1 >rows.out | grep -v -e '^[0-9]* rows, ' -e '^seen - time' -e '^longest' \
-        -e '^this recording'; tr '\n' ' ' <rows.out | sed 's/ $//')"
+        -e '^this recording' -e '^passed over'; tr '\n' ' ' <rows.out | sed 's/ $//')"
 }
 
 check_the_example() {
@@ -243,8 +243,8 @@ check_refusals() {
     refuses_log "a short frame" ':1: the frame has 0 bytes, and --bytes needs 1' '(1.000000) can0 123#\n' --latency 0
     refuses_log "no frame" ': no frame of 123; the identifiers in it are 124, 7FF' '(1.000000) can0 7FF#00\n(1.000000) can0 124#00\n' --latency 0
     refuses_log "seen falls" ':3: seen falls: 250 after 300 of line 1' '(1.000300) can0 123#00\n(1.000000) can0 124#00\n(1.000250) can0 123#00\n' --latency 0
-    refuses_log "one time" ':2: two rows of one time: 1000 is also the time of line 1' '(1.001000) can0 123#00\n(1.001999) can0 123#00\n' --period 1000 --phase 0
-    refuses_log "one stamp" ':2: two rows of one time: 0 is also the time of line 1' '(1.001000) can0 123#00\n(1.001000) can0 123#00\n' --latency 1000
+    refuses_log "one time" ':2: two rows of one time: 1000 is also the time of line 1; --phase 999 gives each row a time of its own (as do those from 1 to 999), and --last takes the last of them' '(1.001000) can0 123#00\n(1.001999) can0 123#00\n' --period 1000 --phase 0
+    refuses_log "one stamp" ':2: two rows of one time: 0 is also the time of line 1; --last takes the last of them' '(1.001000) can0 123#00\n(1.001000) can0 123#00\n' --latency 1000
     refuses_log "below 0" ':1: time -1, seen 999: below 0; choose a smaller --zero, or begin later with --from' '(1.000999) can0 123#00\n' --latency 1000
     refuses_log "no whole value" ':2: the value 0.7 is not whole: choose another --scale, or --round' \
         '(1.001000) can0 123#0A\n(1.002000) can0 123#07\n' --latency 0 --scale 0.1
@@ -258,7 +258,7 @@ check_refusals() {
     refuses_table "time falls" 'bad.csv:3: time falls: 4000 after 5000 of line 2' 't,v,m\n5,1,5\n6,2,4\n' --unit ms --time m
     refuses_table "seen before time" 'bad.csv:2: seen 5 is before its time 6' 't,v,m\n5,1,6\n' --unit us --time m
     refuses_table "no such column" 'bad.csv: no column `v`; its columns are t, w' 't,w\n5,1\n' --unit us --latency 0
-    refuses_table "no number" 'bad.csv:3: column v: `NaN` is no number' 't,v\n5,1\n6,NaN\n' --unit us --latency 0
+    refuses_table "no number" 'bad.csv:3: column v: `NaN` is no number; --missing NaN passes over such cells' 't,v\n5,1\n6,NaN\n' --unit us --latency 0
     refuses_table "two rules" '--time does not go with --period, --phase or --latency' 't,v\n5,1\n' --unit us --latency 0 --time t
     refuses_dump "no timescale" ': not a VCD file with a timescale' '$enddefinitions $end\n'
     refuses_dump "no dump" ':1: not the head of a VCD file' 'time,seen,value\n1,2,3\n'

@@ -166,18 +166,25 @@ check_refusals() {
     refuses "no part" 'ptides wave: --from has to be less than --to' "$wave" steps.json --svg - --from 5 --to 5
     printf 'time,seen,value\n' >s.csv
     refuses "no folder" 'ptides wave: cannot write none/a.vcd: No such file or directory' "$wave" steps.json --vcd none/a.vcd
-    refuses "no program" 'ptides wave: cannot run ./none: No such file or directory' env PTIDES=./none "$wave" steps.json
+    refuses "no program" 'ptides wave: there is no program ./none' env PTIDES=./none "$wave" steps.json
     "$wave" steps.json --csv - --svg empty.svg --vcd empty.vcd >found
     equal "no events: status and records" "0 1" "$? $(wc -l <found)"
     [ ! -e /dev/full ] || equal "a full disk" $'ptides wave: cannot write standard output: No space left on device\n1' \
         "$("$wave" steps.json --csv - 2>&1 >/dev/full; echo $?)"
 }
 
+# The picture that is stored with an example is what wave draws now.
+check_picture() { # EXAMPLE OPTION..
+    (cd -- "$top/examples/$1" && "$wave" graph.json --svg - "${@:2}") >found
+    same "$1: timeline.svg" "$top/examples/$1/timeline.svg" found
+}
+
 check_stored_pictures() {
-    (cd -- "$top/examples/brake" && "$wave" graph.json --svg - --from 108000 --to 128000) >found
-    same "brake: timeline.svg" "$top/examples/brake/timeline.svg" found
-    (cd -- "$top/examples/stand" && "$wave" graph.json --svg - --from 549000 --to 567000) >found
-    same "stand: timeline.svg" "$top/examples/stand/timeline.svg" found
+    check_picture governor
+    check_picture brake --from 108000 --to 128000
+    check_picture stand --from 549000 --to 567000
+    check_picture cruise --from 3205000 --to 3220000
+    equal "each picture is compared" 4 "$(find "$top/examples" -name timeline.svg | wc -l | tr -d ' ')"
 }
 
 for folder in "$top"/examples/*/; do

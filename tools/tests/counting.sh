@@ -84,19 +84,26 @@ copy() {
 }
 
 # page PAGE FOLDER: runs the commands of a page of the repository in a folder of a copy of the examples, with `ptides` at its top.
+# It is the launcher with the program that is checked, whether or not that is of these sources. Python finds the package.
 page() {
     local place=$work/page
     rm -rf -- "$place"
     mkdir -- "$place" && copy "$top/examples" "$place/examples" || exit 1
     cat >"$place/ptides" <<'PTIDES'
 #!/bin/sh
-case $1 in
-    rows | wave | bench | explain) tool=$1; shift; exec "$COMPANIONS/ptides-$tool" "$@" ;;
-esac
+while [ "$1" = -C ]; do
+    cd -- "$2" || exit 1
+    shift 2
+done
+tool=$COMPANIONS/ptides-$1
+if [ -e "$tool" ]; then
+    shift
+    exec "$tool" "$@"
+fi
 exec "$PTIDES" "$@"
 PTIDES
     chmod +x "$place/ptides"
-    COMPANIONS=$top/tools count python3 "$top/tools/tests/console.py" "$top/$1" "$place/$2"
+    COMPANIONS=$top/tools PYTHONPATH=$top/python count python3 "$top/tools/tests/console.py" "$top/$1" "$place/$2"
 }
 
 finish() {

@@ -58,7 +58,7 @@ class Reader:
         self.rows, self.took, self.put = (collections.defaultdict(list) for _ in range(3))
         self.claims = [[] for _ in graph.platforms]
 
-    def told(self, log):
+    def contents(self, log):
         """What the log tells: its head, and the rows, claims and messages in their order."""
         try:
             for line in log.lines[log.at + 1:]:
