@@ -8,7 +8,7 @@ use Rattle.pt_types.specs.declared.firing.Done.{Done}
 use Rattle.pt_types.specs.declared.graph.Graph.{Graph}
 use Rattle.pt_types.specs.declared.graph.Link.{Link}
 use Rattle.pt_types.specs.declared.rows.Row.{Row}
-use Rattle.pt_semantics.specs.Visits.{together_at_start}
+use Rattle.pt_semantics.specs.Visits.{run_at_start}
 use Rattle.pt_offsets.specs.Plans.{IsAdmitted, Parts}
 use Rattle.pt_turn.specs.All.{AreReady}
 use Rattle.pt_turn.specs.Platforms.{PlatformView}
@@ -26,7 +26,7 @@ pub record AreOpened (plan : Parts) (rows : ℕ → List Row) (platforms : List 
   pub no_message : pipes ≡ replicate (length plan.graph.links) []
   pub no_result : results ≡ replicate (length platforms) []
 
-pub shown_first : (plan : Parts) (rows : ℕ → List Row) (platforms : List PlatformView) (pipes : List (List Message)) (results : List (List Done)) → AreOpened plan rows platforms pipes results → AreShown plan rows (together_at_start plan.graph rows) platforms pipes results
+pub shown_first : (plan : Parts) (rows : ℕ → List Row) (platforms : List PlatformView) (pipes : List (List Message)) (results : List (List Done)) → AreOpened plan rows platforms pipes results → AreShown plan rows (run_at_start plan.graph rows) platforms pipes results
 shown_first plan rows platforms pipes results new = start_shows plan rows platforms pipes results new.ready new.legal
     (ap length new.no_message ∙ length-replicate (length plan.graph.links) [])
     (λ l pipe at. none_in (length plan.graph.links) l pipe (subst (λ ps. slice_get ps l ≡ Some pipe) new.no_message at))

@@ -8,3 +8,4 @@ pub mod Showing
 pub mod Views
 pub mod Passing
 pub mod MoreShown
+pub mod Idle

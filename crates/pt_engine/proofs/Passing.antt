@@ -5,7 +5,7 @@ use mathlib.Core.Bool.{beq}
 use Rattle.pt_semantics.specs.Lists.{IsIn}
 use Rattle.pt_semantics.specs.Platform.{State}
 use Rattle.pt_semantics.specs.Turn.{is_quiet}
-use Rattle.pt_semantics.specs.Visits.{Made}
+use Rattle.pt_semantics.specs.Visits.{VisitRecord}
 use Rattle.pt_semantics.proofs.Lookups.{IsIn-append_left, IsIn-append_right, same_some}
 use Rattle.pt_laws.proofs.Onward.{cases_same}
 use Rattle.pt_turn.specs.Platforms.{PlatformView, raised_to}
@@ -27,19 +27,19 @@ raised_same (Some p) c h = let le : p ≤ c = h p refl in cond-true (nat_le p c)
     at_most m n le = grind arith
 
 -- a turn in the round was not quiet, or one of the first n platforms closed
-abbrev pub IsNoisy : (ℕ → State) → List Made → ℕ → (ℕ → State) → Type 0
-IsNoisy first made n now = ((m : Made) × IsIn m made × (is_quiet m.turn ≡ false)) ⊎ ((j : ℕ) × (j < n) × ((now j).closed ≡ (first j).closed → ⊥))
+abbrev pub IsNoisy : (ℕ → State) → List VisitRecord → ℕ → (ℕ → State) → Type 0
+IsNoisy first made n now = ((m : VisitRecord) × IsIn m made × (is_quiet m.turn ≡ false)) ⊎ ((j : ℕ) × (j < n) × ((now j).closed ≡ (first j).closed → ⊥))
 
 -- the next platform is passed by
-pub noisy_by : (first : ℕ → State) (made : List Made) (n : ℕ) (now : ℕ → State) → IsNoisy first made n now → IsNoisy first made (suc n) now
+pub noisy_by : (first : ℕ → State) (made : List VisitRecord) (n : ℕ) (now : ℕ → State) → IsNoisy first made n now → IsNoisy first made (suc n) now
 noisy_by first made n now noisy =
     ⊎_elim
-    (λ (one : (m : Made) × IsIn m made × (is_quiet m.turn ≡ false)). inl one)
+    (λ (one : (m : VisitRecord) × IsIn m made × (is_quiet m.turn ≡ false)). inl one)
     (λ (one : (j : ℕ) × (j < n) × ((now j).closed ≡ (first j).closed → ⊥)). inr (one.0, (let lt : one.0 < n = one.1 in omega arith), one.2))
     noisy
 
 -- platform n makes a turn, before which it was closed or not, and after it
-module _ (first before after : ℕ → State) (made : List Made) (m : Made) (n : ℕ) (was is : Bool) (was_is : (before n).closed ≡ was) (is_now : (after n).closed ≡ is) (stays : (j : ℕ) → j ≢ n → after j ≡ before j) where
+module _ (first before after : ℕ → State) (made : List VisitRecord) (m : VisitRecord) (n : ℕ) (was is : Bool) (was_is : (before n).closed ≡ was) (is_now : (after n).closed ≡ is) (stays : (j : ℕ) → j ≢ n → after j ≡ before j) where
   pub closed_still : is ≡ was → ((j : ℕ) → (before j).closed ≡ (first j).closed) → (j : ℕ) → (after j).closed ≡ (first j).closed
   closed_still same h j =
       ⊎_elim
@@ -50,7 +50,7 @@ module _ (first before after : ℕ → State) (made : List Made) (m : Made) (n :
   pub noisy_still : IsNoisy first made n before → IsNoisy first (made ++ m ∷ []) (suc n) after
   noisy_still noisy =
       ⊎_elim
-      (λ (one : (k : Made) × IsIn k made × (is_quiet k.turn ≡ false)). inl (one.0, IsIn-append_left one.0 made (m ∷ []) one.1, one.2))
+      (λ (one : (k : VisitRecord) × IsIn k made × (is_quiet k.turn ≡ false)). inl (one.0, IsIn-append_left one.0 made (m ∷ []) one.1, one.2))
       (λ (one : (j : ℕ) × (j < n) × ((before j).closed ≡ (first j).closed → ⊥)).
       let lt : one.0 < n = one.1 in
       inr (one.0, omega arith, λ same. one.2 (sym (ap (λ (z : State). z.closed) (stays one.0 (λ here. apart one.0 lt here))) ∙ same)))

@@ -27,7 +27,7 @@ use Rattle.pt_semantics.specs.Ranks.{AreLevels}
 use Rattle.pt_semantics.specs.Rows.{FitRows}
 use Rattle.pt_semantics.specs.Safe.{NothingSafe}
 use Rattle.pt_semantics.specs.Turn.{IsLast, IsTurn, Turn}
-use Rattle.pt_semantics.specs.Visits.{IsVisit, LinkByLink, Made, NumbersRise, Together, leads_to}
+use Rattle.pt_semantics.specs.Visits.{IsVisit, LinkByLink, VisitRecord, NumbersRise, RunState, leads_to}
 use Rattle.pt_semantics.specs.Wired.{IsWired}
 use Rattle.pt_laws.proofs.Bounds.{outgoing_orderly}
 use Rattle.pt_laws.proofs.Home.{home_on_time}
@@ -104,7 +104,7 @@ same_turn g level i s t new end turn late e f is = record {
 }
 
 -- the messages on the way on a link are those in its pipe
-way_is : (plan : Parts) (rows : ℕ → List Row) (x : Together) (platforms : List PlatformView) (pipes : List (List Message)) (results : List (List Done)) → AreShown plan rows x platforms pipes results → (l : ℕ) → x.on_way l ≡ held pipes l
+way_is : (plan : Parts) (rows : ℕ → List Row) (x : RunState) (platforms : List PlatformView) (pipes : List (List Message)) (results : List (List Done)) → AreShown plan rows x platforms pipes results → (l : ℕ) → x.on_way l ≡ held pipes l
 way_is plan rows x platforms pipes results shown l =
     ⊎_elim
     (λ (none : slice_get pipes l ≡ None). shown.nowhere_else l none ∙ sym (held_none pipes l none))
@@ -112,7 +112,7 @@ way_is plan rows x platforms pipes results shown l =
     (there_or_not (slice_get pipes l))
 
 -- no platform took a late message so far, and a visit sees all that is on its way
-module _ (g : Graph) (level : ℕ → ℕ) (rows : ℕ → List Row) (x : Together) (is_wired : IsWired g) (are : AreLevels g level) (fits : FitRows g rows)
+module _ (g : Graph) (level : ℕ → ℕ) (rows : ℕ → List Row) (x : RunState) (is_wired : IsWired g) (are : AreLevels g level) (fits : FitRows g rows)
     (legal : (p : ℕ) → p < length g.platforms → LegalOnTime g level p (opened g p rows) (x.did p) (x.at p))
     (linked : (l : ℕ) (link : Link) → slice_get g.links l ≡ Some link → all_sent l (x.did (platform_of g link.from)) ≡ all_taken l (x.did (platform_of g link.to)) ++ x.on_way l) where
   pub all_on_time : (i : ℕ) → i < length g.platforms → SendsNothingElse g i (x.at i) → OnTimeSoFar g level rows i x
@@ -126,14 +126,14 @@ module _ (g : Graph) (level : ℕ → ℕ) (rows : ℕ → List Row) (x : Togeth
   }
 
 -- all platforms before a visit of the one with this view
-record IsBefore (rows : ℕ → List Row) (x : Together) (platforms : List PlatformView) (pipes : List (List Message)) (results : List (List Done)) (v : PlatformView) : Type 0 where
+record IsBefore (rows : ℕ → List Row) (x : RunState) (platforms : List PlatformView) (pipes : List (List Message)) (results : List (List Done)) (v : PlatformView) : Type 0 where
   admitted : IsAdmitted v.plan
   fits : FitRows v.plan.graph rows
   so_far : OnTimeSoFar v.plan.graph (level_at v) rows v.number x
   shown : AreShown v.plan rows x platforms pipes results
   there : slice_get platforms v.number ≡ Some v
 
-module _ (rows : ℕ → List Row) (x : Together) (platforms : List PlatformView) (pipes : List (List Message)) (results : List (List Done)) (v : PlatformView) (h : IsBefore rows x platforms pipes results v) where
+module _ (rows : ℕ → List Row) (x : RunState) (platforms : List PlatformView) (pipes : List (List Message)) (results : List (List Done)) (v : PlatformView) (h : IsBefore rows x platforms pipes results v) where
   graph_wired : IsWired v.plan.graph
   graph_wired = wired v.plan.graph h.admitted.lawful
 
@@ -167,20 +167,20 @@ module _ (rows : ℕ → List Row) (x : Together) (platforms : List PlatformView
         (orderly_front v.plan.graph (level_at v) link (all_taken l (x.did v.number) ++ x.on_way l) behind (subst (IsOrderly v.plan.graph (level_at v) link) linked (h.so_far.orderly l link at home)));
   }
 
-module _ (rows : ℕ → List Row) (x : Together) (platforms : List PlatformView) (pipes : List (List Message)) (results : List (List Done)) (v : PlatformView) (h : IsBefore rows x platforms pipes results v)
+module _ (rows : ℕ → List Row) (x : RunState) (platforms : List PlatformView) (pipes : List (List Message)) (results : List (List Done)) (v : PlatformView) (h : IsBefore rows x platforms pipes results v)
     (most c : ℕ) (room : ℕ → ℕ) (rooms : IsRoomFrom v.plan.graph v.number x room) (small : raised_to v.reading c < 2 ^ 64) (w : PlatformView) (dones next : List Done) (piped : List (List Message)) (mine_at : slice_get results v.number ≡ Some dones) (k : IsVisited most c dones next v w pipes piped) where
   -- the messages of a link that stay there: those that arrived and were not taken, or, if it leads elsewhere, all
   abbrev stays : ℕ → List Message
   stays l = on_link l k.taken.rest ++ held (emptied v.plan.graph v.number 0 pipes) l
 
-  abbrev after : Together
+  abbrev after : RunState
   after = record {
     at = λ j. if j == v.number then state_at w else x.at j;
     did = λ j. if j == v.number then x.did v.number ++ k.turn ∷ [] else x.did j;
     on_way = λ l. stays l ++ on_link l k.turn.sent;
   }
 
-  abbrev visit_made : Made
+  abbrev visit_made : VisitRecord
   visit_made = record { platform = v.number; turn = k.turn; late = is_late w.fault; fault = is_fault w.fault }
 
   same_number : (v.number == v.number) ≡ true
@@ -434,7 +434,7 @@ module _ (rows : ℕ → List Row) (x : Together) (platforms : List PlatformView
   }
 
 -- the same by the plan and the number of the platform's view
-before_of : (plan : Parts) (rows : ℕ → List Row) (x : Together) (platforms : List PlatformView) (pipes : List (List Message)) (results : List (List Done)) → IsAdmitted plan → FitRows plan.graph rows → AreShown plan rows x platforms pipes results → (i : ℕ) (v : PlatformView) → slice_get platforms i ≡ Some v → OnTimeSoFar plan.graph (level_of plan.ranks) rows i x → IsBefore rows x platforms pipes results v
+before_of : (plan : Parts) (rows : ℕ → List Row) (x : RunState) (platforms : List PlatformView) (pipes : List (List Message)) (results : List (List Done)) → IsAdmitted plan → FitRows plan.graph rows → AreShown plan rows x platforms pipes results → (i : ℕ) (v : PlatformView) → slice_get platforms i ≡ Some v → OnTimeSoFar plan.graph (level_of plan.ranks) rows i x → IsBefore rows x platforms pipes results v
 before_of plan rows x platforms pipes results admitted fits shown i v there so_far =
     let plan_is : plan ≡ v.plan = sym (shown.all.plans i v there) in
     let number_is : i ≡ v.number = sym (shown.all.numbers i v there) in

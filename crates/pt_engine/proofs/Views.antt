@@ -7,7 +7,7 @@ use Rattle.pt_types.specs.declared.rows.Row.{Row}
 use Rattle.pt_semantics.specs.Kept.{kept}
 use Rattle.pt_semantics.specs.Linked.{IsFinished}
 use Rattle.pt_semantics.specs.Platform.{State}
-use Rattle.pt_semantics.specs.Visits.{AreFinished, Together}
+use Rattle.pt_semantics.specs.Visits.{AreFinished, RunState}
 use Rattle.pt_offsets.specs.Plans.{Parts}
 use Rattle.pt_turn.specs.All.{histories_of}
 use Rattle.pt_turn.specs.Platforms.{PlatformView, state_at}
@@ -15,10 +15,10 @@ use Rattle.pt_engine.specs.Asked.{AreAllFinished}
 use Rattle.pt_engine.specs.Shown.{AreShown, AreThere}
 use Rattle.pt_engine.proofs.Listed.{member}
 
-pub there_of : (plan : Parts) (rows : ℕ → List Row) (x : Together) (platforms : List PlatformView) (pipes : List (List Message)) (results : List (List Done)) → AreShown plan rows x platforms pipes results → AreThere plan rows x platforms
+pub there_of : (plan : Parts) (rows : ℕ → List Row) (x : RunState) (platforms : List PlatformView) (pipes : List (List Message)) (results : List (List Done)) → AreShown plan rows x platforms pipes results → AreThere plan rows x platforms
 there_of plan rows x platforms pipes results shown = record { all = shown.all; states = shown.states; kept_turns = shown.kept_turns }
 
-module _ (plan : Parts) (rows : ℕ → List Row) (x : Together) (platforms : List PlatformView) (are : AreThere plan rows x platforms) where
+module _ (plan : Parts) (rows : ℕ → List Row) (x : RunState) (platforms : List PlatformView) (are : AreThere plan rows x platforms) where
   -- a fact on a platform's plan, number and state is one on its view
   pub to_view : (P : Parts → ℕ → State → Type 0) (i : ℕ) (v : PlatformView) → slice_get platforms i ≡ Some v → P plan i (x.at i) → P v.plan v.number (state_at v)
   to_view P i v there h =

@@ -3,3 +3,4 @@ pub mod Shown
 pub mod Showing
 pub mod MoreShown
 pub mod Outcome
+pub mod Idle

@@ -12,7 +12,7 @@ use Rattle.pt_semantics.specs.Orderly.{IsOrderly}
 use Rattle.pt_semantics.specs.Platform.{opened}
 use Rattle.pt_semantics.specs.Rows.{FitRows}
 use Rattle.pt_semantics.specs.Turn.{Turn}
-use Rattle.pt_semantics.specs.Visits.{IsVisit, Made, Together, together_at_start}
+use Rattle.pt_semantics.specs.Visits.{IsVisit, VisitRecord, RunState, run_at_start}
 use Rattle.pt_causality.specs.Ranked.{level_of}
 use Rattle.pt_offsets.specs.Plans.{IsAdmitted, Parts}
 use Rattle.pt_turn.specs.All.{AreReady}
@@ -26,7 +26,7 @@ use Rattle.pt_engine.specs.Shown.{ArePending, AreShown, AreThere, is_fault}
 
 -- all platforms before a visit of platform i, however they were made: it took no late message so far, and what was sent to it
 -- is orderly. Behind the messages on their way there may be others, which the visit does not see
-pub record OnTimeSoFar (g : Graph) (level : ℕ → ℕ) (rows : ℕ → List Row) (i : ℕ) (x : Together) : Type 0 where
+pub record OnTimeSoFar (g : Graph) (level : ℕ → ℕ) (rows : ℕ → List Row) (i : ℕ) (x : RunState) : Type 0 where
   pub legal : LegalOnTime g level i (opened g i rows) (x.did i) (x.at i)
   pub own : SendsNothingElse g i (x.at i)
   pub orderly : (l : ℕ) (link : Link) → slice_get g.links l ≡ Some link → platform_of g link.to ≡ i → IsOrderly g level link (all_sent l (x.did (platform_of g link.from)))
@@ -35,9 +35,9 @@ pub record OnTimeSoFar (g : Graph) (level : ℕ → ℕ) (rows : ℕ → List Ro
 
 -- a visit at reading r, and what the platforms, pipes and results represent after it. If a message was late the run is over:
 -- nothing is said of the pipes
-pub record ShowsVisit (plan : Parts) (rows : ℕ → List Row) (most : ℕ) (room : ℕ → ℕ) (r i : ℕ) (x : Together) (w : PlatformView) (turn : Turn) (platforms : List PlatformView) (piped : List (List Message)) (results : List (List Done)) : Type 0 where
-  pub made : Made
-  pub together : Together
+pub record ShowsVisit (plan : Parts) (rows : ℕ → List Row) (most : ℕ) (room : ℕ → ℕ) (r i : ℕ) (x : RunState) (w : PlatformView) (turn : Turn) (platforms : List PlatformView) (piped : List (List Message)) (results : List (List Done)) : Type 0 where
+  pub made : VisitRecord
+  pub together : RunState
   pub platform : made.platform ≡ i
   pub turn_is : made.turn ≡ turn
   pub late : made.late ≡ is_late w.fault
@@ -48,7 +48,7 @@ pub record ShowsVisit (plan : Parts) (rows : ℕ → List Row) (most : ℕ) (roo
   pub shown : is_late w.fault ≡ false → AreShown plan rows together platforms piped results
 
 -- the room of the pipes of the links that lead from platform i
-abbrev pub IsRoomFrom : Graph → ℕ → Together → (ℕ → ℕ) → Type 0
+abbrev pub IsRoomFrom : Graph → ℕ → RunState → (ℕ → ℕ) → Type 0
 IsRoomFrom g i x room = (l : ℕ) (link : Link) → slice_get g.links l ≡ Some link → platform_of g link.from ≡ i → room l ≡ 64 - length (x.on_way l)
 
 -- platforms just opened, empty pipes and no pending results represent the start
@@ -57,15 +57,15 @@ StartShows = (plan : Parts) (rows : ℕ → List Row) (platforms : List Platform
     HaveLegalHistories platforms →
     length pipes ≡ length plan.graph.links → ((l : ℕ) (pipe : List Message) → slice_get pipes l ≡ Some pipe → pipe ≡ []) →
     length results ≡ length platforms → ((i : ℕ) (dones : List Done) → slice_get results i ≡ Some dones → dones ≡ []) →
-    AreShown plan rows (together_at_start plan.graph rows) platforms pipes results
+    AreShown plan rows (run_at_start plan.graph rows) platforms pipes results
 
 -- a platform may take the messages that are on their way to it
 abbrev pub MayComeTo : Type 0
-MayComeTo = (plan : Parts) (rows : ℕ → List Row) (x : Together) (platforms : List PlatformView) (pipes : List (List Message)) (results : List (List Done)) → IsAdmitted plan → FitRows plan.graph rows → AreShown plan rows x platforms pipes results → (i : ℕ) (v : PlatformView) → slice_get platforms i ≡ Some v → OnTimeSoFar plan.graph (level_of plan.ranks) rows i x →
+MayComeTo = (plan : Parts) (rows : ℕ → List Row) (x : RunState) (platforms : List PlatformView) (pipes : List (List Message)) (results : List (List Done)) → IsAdmitted plan → FitRows plan.graph rows → AreShown plan rows x platforms pipes results → (i : ℕ) (v : PlatformView) → slice_get platforms i ≡ Some v → OnTimeSoFar plan.graph (level_of plan.ranks) rows i x →
     MayCome v.plan.graph (level_at v) v.number (state_at v) (arriving v.plan.graph v.number 0 pipes)
 
 -- a visit by an engine is a visit by the definitions
 abbrev pub VisitShows : Type 0
-VisitShows = (plan : Parts) (rows : ℕ → List Row) (x : Together) (platforms : List PlatformView) (pipes : List (List Message)) (results : List (List Done)) → IsAdmitted plan → FitRows plan.graph rows → AreShown plan rows x platforms pipes results → (most c i : ℕ) (v w : PlatformView) (dones next : List Done) (piped : List (List Message)) → slice_get platforms i ≡ Some v → slice_get results i ≡ Some dones → OnTimeSoFar plan.graph (level_of plan.ranks) rows i x →
+VisitShows = (plan : Parts) (rows : ℕ → List Row) (x : RunState) (platforms : List PlatformView) (pipes : List (List Message)) (results : List (List Done)) → IsAdmitted plan → FitRows plan.graph rows → AreShown plan rows x platforms pipes results → (most c i : ℕ) (v w : PlatformView) (dones next : List Done) (piped : List (List Message)) → slice_get platforms i ≡ Some v → slice_get results i ≡ Some dones → OnTimeSoFar plan.graph (level_of plan.ranks) rows i x →
     (room : ℕ → ℕ) → IsRoomFrom plan.graph i x room → raised_to v.reading c < 2 ^ 64 →
     (visited : IsVisited most c dones next v w pipes piped) → ShowsVisit plan rows most room (raised_to v.reading c) i x w visited.turn (set platforms i w) piped (set results i next)

@@ -9,7 +9,7 @@ use Rattle.pt_types.specs.declared.rows.Row.{Row}
 use Rattle.pt_semantics.specs.Kept.{kept}
 use Rattle.pt_semantics.specs.Platform.{put_busy}
 use Rattle.pt_semantics.specs.Units.{unit_of}
-use Rattle.pt_semantics.specs.Visits.{NumbersRise, Together}
+use Rattle.pt_semantics.specs.Visits.{NumbersRise, RunState}
 use Rattle.pt_offsets.specs.Plans.{Parts}
 use Rattle.pt_turn.specs.Posts.Posted.{AreDone}
 use Rattle.pt_turn.specs.Fields.State.{busy_in}
@@ -39,7 +39,7 @@ pub record ArePending (g : Graph) (platforms : List PlatformView) (results : Lis
   pub each : (i : ℕ) (v : PlatformView) (dones : List Done) → slice_get platforms i ≡ Some v → slice_get results i ≡ Some dones → AreResults g v dones
 
 -- the platforms, pipes and pending results represent all platforms together
-pub record AreShown (plan : Parts) (rows : ℕ → List Row) (x : Together) (platforms : List PlatformView) (pipes : List (List Message)) (results : List (List Done)) : Type 0 where
+pub record AreShown (plan : Parts) (rows : ℕ → List Row) (x : RunState) (platforms : List PlatformView) (pipes : List (List Message)) (results : List (List Done)) : Type 0 where
   pub all : AreAll plan rows platforms
   pub states : (i : ℕ) (v : PlatformView) → slice_get platforms i ≡ Some v → x.at i ≡ state_at v
   pub kept_turns : (i : ℕ) (v : PlatformView) → slice_get platforms i ≡ Some v → v.turns ≡ kept (x.did i)
@@ -50,7 +50,7 @@ pub record AreShown (plan : Parts) (rows : ℕ → List Row) (x : Together) (pla
   pub pending : (i : ℕ) (v : PlatformView) (dones : List Done) → slice_get platforms i ≡ Some v → slice_get results i ≡ Some dones → AreResults plan.graph v dones
 
 -- the platforms alone represent them
-pub record AreThere (plan : Parts) (rows : ℕ → List Row) (x : Together) (platforms : List PlatformView) : Type 0 where
+pub record AreThere (plan : Parts) (rows : ℕ → List Row) (x : RunState) (platforms : List PlatformView) : Type 0 where
   pub all : AreAll plan rows platforms
   pub states : (i : ℕ) (v : PlatformView) → slice_get platforms i ≡ Some v → x.at i ≡ state_at v
   pub kept_turns : (i : ℕ) (v : PlatformView) → slice_get platforms i ≡ Some v → v.turns ≡ kept (x.did i)

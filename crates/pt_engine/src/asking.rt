@@ -36,7 +36,8 @@ pub fn are_finished(platforms: &[Platform]) -> bool
 /// Whether nothing was posted, entered, taken, claimed or sent in the last turn.
 pub fn was_quiet(platform: &Platform) -> bool
     requires begun { 0 < length platform.now.turns }
-    ensures { (before : List Turn) (turn : Turn) → platform.now.turns ≡ before ++ turn ∷ [] → result ≡ is_quiet turn }
+    ensures { (before : List Turn) (turn : Turn) → platform.now.turns ≡ before ++ turn ∷ [] →
+        result ≡ is_quiet turn }
 {
     platform.history().was_quiet()
 }

@@ -26,7 +26,8 @@ pub fn pipes(alloc: Global, count: usize) -> Result<Vec<Pipe>, Memory>
 /// An empty list of results for each platform. No platform has made a turn, so each is still in its opening state.
 pub fn no_results(alloc: Global, platforms: &[Platform]) -> Result<Vec<Vec<Done>>, Memory>
     requires fresh { AreNew platforms.now }
-    ensures none { IfOk result (λ lists. result_lists lists.items ≡ replicate (length platforms.now) []) }
+    ensures none { IfOk result (λ lists.
+        result_lists lists.items ≡ replicate (length platforms.now) []) }
     ensures legal { OnOk result (HaveLegalHistories platforms.now) }
 {
     let mut lists = Vec::new(alloc);

@@ -3,7 +3,7 @@ use Rattle.std.proofs.Common.{◌≡◌, ◌≢◌, ℕ, ◌<◌, ◌^◌, List,
 use Rattle.std.proofs.lemmas.Bool.{cond-true, cond-false, ne_eqb}
 use Rattle.pt_semantics.specs.Readings.{greatest_of, later_of}
 use Rattle.pt_turn.specs.Platforms.{raised_to}
-use Rattle.pt_fixed_order_laws.specs.Going.{with_reading}
+use Rattle.pt_fixed_order_laws.specs.SoFar.{with_reading}
 use Rattle.pt_fixed_order.specs.Between.{IsLastOf}
 
 pub with_here : (readings : ℕ → List ℕ) (j r : ℕ) → with_reading readings j r j ≡ readings j ++ r ∷ []

@@ -18,7 +18,7 @@ use Rattle.pt_semantics.specs.Readings.{IsReadBy, greatest_of, later_of}
 use Rattle.pt_semantics.specs.Rows.{FitRows}
 use Rattle.pt_semantics.specs.Turn.{Turn}
 use Rattle.pt_semantics.specs.Platform.{opened}
-use Rattle.pt_semantics.specs.Visits.{AreFinished, IsVisit, Made, Together}
+use Rattle.pt_semantics.specs.Visits.{AreFinished, IsVisit, VisitRecord, RunState}
 use Rattle.pt_semantics.specs.Wired.{IsWired}
 use Rattle.pt_semantics.proofs.Lookups.{same_some}
 use Rattle.pt_laws.proofs.Onward.{cases_same}
@@ -32,8 +32,8 @@ use Rattle.pt_turn.specs.Platforms.{PlatformView, level_at, raised_to, state_at}
 use Rattle.pt_turn.specs.Running.{Shows}
 use Rattle.pt_turn.specs.Turned.{is_late}
 use Rattle.pt_visits.specs.Visited.{IsVisited}
-use Rattle.pt_fixed_order_laws.specs.Going.{Went, with_reading}
-use Rattle.pt_fixed_order_laws.proofs.Going.{links_are_free, links_stay_free, visits_end, visits_go_on}
+use Rattle.pt_fixed_order_laws.specs.SoFar.{WholeRun, with_reading}
+use Rattle.pt_fixed_order_laws.proofs.SoFar.{links_are_free, links_stay_free, visits_end, visits_go_on}
 use Rattle.pt_fixed_order_laws.specs.Sound.{Sound}
 use Rattle.pt_fixed_order_laws.proofs.Sound.{Own, goes_on_time, own_turn, sound_after, turn_reading}
 use Rattle.pt_fixed_order_laws.proofs.Whole.{fixed_order_is_legal}
@@ -48,7 +48,7 @@ use Rattle.pt_fixed_order.specs.Between.{WereReadBetween, IsLastOf, BeforeVisit,
 use Rattle.pt_fixed_order.proofs.Counting.{last_more, raised_is, raised_small, with_here, with_there}
 
 -- between two visits in fixed order all is as between two visits of any engine
-pub so_far : (plan : Parts) (rows : ℕ → List Row) (x : Together) → IsAdmitted plan → FitRows plan.graph rows → Sound plan.graph (level_of plan.ranks) rows x → (i : ℕ) → i < length plan.graph.platforms → OnTimeSoFar plan.graph (level_of plan.ranks) rows i x
+pub so_far : (plan : Parts) (rows : ℕ → List Row) (x : RunState) → IsAdmitted plan → FitRows plan.graph rows → Sound plan.graph (level_of plan.ranks) rows x → (i : ℕ) → i < length plan.graph.platforms → OnTimeSoFar plan.graph (level_of plan.ranks) rows i x
 so_far plan rows x admitted fits s i lt =
     all_on_time plan.graph (level_of plan.ranks) rows x (wired plan.graph admitted.lawful) admitted.levels fits
     (λ p within. goes_on_time plan.graph (level_of plan.ranks) p (x.did p) (opened plan.graph p rows) (x.at p) (s.goes p)) s.linked i lt (s.own i)
@@ -157,7 +157,7 @@ module _ (plan : Parts) (rows : ℕ → List Row) (most j : ℕ) (began now : Li
   }
 
 -- the last of some visits
-last_visit : (ms : List Made) (m : Made) (fault : Option (ℕ × TurnFault)) → LastVisitEnds (m ∷ []) fault → LastVisitEnds (ms ++ m ∷ []) fault
+last_visit : (ms : List VisitRecord) (m : VisitRecord) (fault : Option (ℕ × TurnFault)) → LastVisitEnds (m ∷ []) fault → LastVisitEnds (ms ++ m ∷ []) fault
 last_visit [] m fault h = h
 last_visit (n ∷ []) m fault h = h
 last_visit (n ∷ p ∷ ms) m fault h = last_visit (p ∷ ms) m fault h
@@ -193,10 +193,10 @@ module _ (plan : Parts) (rows : ℕ → List Row) (most j : ℕ) (began now : Li
       ends = ends;
     };
     in_turn = record { made = went.0.made; end = a.together; visits = went.0.visits; kept_are = history plan rows a.together platforms a.there };
-    last = subst (λ (ms : List Made). LastVisitEnds ms fault) (sym went.1) (last_visit a.goes.made a.made fault last);
+    last = subst (λ (ms : List VisitRecord). LastVisitEnds ms fault) (sym went.1) (last_visit a.goes.made a.made fault last);
   }
     where
-      went : (whole : Went plan.graph (level_of plan.ranks) rows most (with_reading a.readings j a.reading) a.together) × (whole.made ≡ a.goes.made ++ a.made ∷ [])
+      went : (whole : WholeRun plan.graph (level_of plan.ranks) rows most (with_reading a.readings j a.reading) a.together) × (whole.made ≡ a.goes.made ++ a.made ∷ [])
       went = visits_end plan.graph (level_of plan.ranks) rows most a.readings j a.reading a.before a.together a.made a.goes a.platform a.visit over a.none_past a.next
 
       laws : ((i : ℕ) → i < length plan.graph.platforms → IsLegal plan.graph (level_of plan.ranks) i rows (kept (a.together.did i)) (a.together.at i))

@@ -7,7 +7,7 @@ use Rattle.pt_types.specs.declared.firing.Done.{Done}
 use Rattle.pt_types.specs.declared.rows.Row.{Row}
 use Rattle.pt_semantics.specs.Platform.{State}
 use Rattle.pt_semantics.specs.Readings.{IsReadBy}
-use Rattle.pt_semantics.specs.Visits.{together_at_start}
+use Rattle.pt_semantics.specs.Visits.{run_at_start}
 use Rattle.pt_semantics.proofs.Lookups.{same_some}
 use Rattle.pt_causality.specs.Ranked.{level_of}
 use Rattle.pt_offsets.specs.Plans.{Parts}
@@ -23,14 +23,14 @@ none_ahead (Some f) None = λ e. tt
 none_ahead (Some f) (Some all) = λ e. refl
 
 module _ (plan : Parts) (rows : ℕ → List Row) (most : ℕ) (clocks : List ClockView) (platforms : List PlatformView) (pipes : List (List Message)) (results : List (List Done)) (new : AreOpened plan rows platforms pipes results) (count : length clocks ≡ length platforms) where
-  shown_here : AreShown plan rows (together_at_start plan.graph rows) platforms pipes results
+  shown_here : AreShown plan rows (run_at_start plan.graph rows) platforms pipes results
   shown_here = shown_first plan rows platforms pipes results new
 
   pub before_first : BeforeVisit plan rows most 0 clocks clocks platforms pipes results
   before_first = record {
     admitted = new.admitted;
     fit = new.ready.fit;
-    together = together_at_start plan.graph rows;
+    together = run_at_start plan.graph rows;
     readings = λ i. [];
     next = subst (λ n. 0 < n) new.ready.all.count new.some;
     goes = record { made = []; visits = (refl, refl, λ k. refl) };

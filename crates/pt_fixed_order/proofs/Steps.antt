@@ -11,7 +11,6 @@ use Rattle.pt_types.specs.declared.firing.Done.{Done}
 use Rattle.pt_types.specs.declared.graph.Graph.{Graph}
 use Rattle.pt_types.specs.declared.rows.Row.{Row}
 use Rattle.pt_semantics.specs.FixedOrder.{platform_after}
-use Rattle.pt_causality.specs.Ranked.{level_of}
 use Rattle.pt_offsets.specs.Plans.{Parts}
 use Rattle.pt_turn.specs.Posts.Posted.{AreDone}
 use Rattle.pt_turn.specs.declared.fault.TurnFault.{TurnFault}

@@ -6,12 +6,12 @@ use Rattle.pt_types.specs.declared.firing.Done.{Done}
 use Rattle.pt_types.specs.declared.rows.Row.{Row}
 use Rattle.pt_semantics.specs.Readings.{IsReadBy, greatest_of, later_of}
 use Rattle.pt_semantics.specs.Rows.{FitRows}
-use Rattle.pt_semantics.specs.Visits.{IsVisit, Made, Together}
+use Rattle.pt_semantics.specs.Visits.{IsVisit, VisitRecord, RunState}
 use Rattle.pt_causality.specs.Ranked.{level_of}
 use Rattle.pt_offsets.specs.Plans.{IsAdmitted, Parts}
 use Rattle.pt_turn.specs.Platforms.{PlatformView}
 use Rattle.pt_turn.specs.Turned.{is_late}
-use Rattle.pt_fixed_order_laws.specs.Going.{IsAllTaken, IsGoing, with_reading}
+use Rattle.pt_fixed_order_laws.specs.SoFar.{IsAllTaken, RunSoFar, with_reading}
 use Rattle.pt_fixed_order_laws.specs.Sound.{Sound}
 use Rattle.pt_engine.specs.Shown.{AreShown, AreThere, is_fault}
 
@@ -33,10 +33,10 @@ pub record WereReadBetween (began now : List ClockView) (platforms : List Platfo
 pub record BeforeVisit (plan : Parts) (rows : ℕ → List Row) (most j : ℕ) (began now : List ClockView) (platforms : List PlatformView) (pipes : List (List Message)) (results : List (List Done)) : Type 0 where
   pub admitted : IsAdmitted plan
   pub fit : FitRows plan.graph rows
-  pub together : Together
+  pub together : RunState
   pub readings : ℕ → List ℕ
   pub next : j < length plan.graph.platforms
-  pub goes : IsGoing plan.graph (level_of plan.ranks) rows most readings j together
+  pub goes : RunSoFar plan.graph (level_of plan.ranks) rows most readings j together
   pub free : IsAllTaken plan.graph j together
   pub sound : Sound plan.graph (level_of plan.ranks) rows together
   pub shown : AreShown plan rows together platforms pipes results
@@ -47,15 +47,15 @@ pub record BeforeVisit (plan : Parts) (rows : ℕ → List Row) (most j : ℕ) (
 pub record AfterVisit (plan : Parts) (rows : ℕ → List Row) (most j : ℕ) (began now : List ClockView) (platforms : List PlatformView) (pipes : List (List Message)) (results : List (List Done)) : Type 0 where
   pub admitted : IsAdmitted plan
   pub fit : FitRows plan.graph rows
-  pub before : Together
+  pub before : RunState
   pub readings : ℕ → List ℕ
   pub next : j < length plan.graph.platforms
-  pub goes : IsGoing plan.graph (level_of plan.ranks) rows most readings j before
+  pub goes : RunSoFar plan.graph (level_of plan.ranks) rows most readings j before
   pub free : IsAllTaken plan.graph j before
   pub sound : Sound plan.graph (level_of plan.ranks) rows before
   pub reading : ℕ
-  pub made : Made
-  pub together : Together
+  pub made : VisitRecord
+  pub together : RunState
   pub platform : made.platform ≡ j
   pub visit : IsVisit plan.graph (level_of plan.ranks) most (λ l. 64) (later_of (greatest_of 0 (readings j)) reading) before made together
   pub there : AreThere plan rows together platforms

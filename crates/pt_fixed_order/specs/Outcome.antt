@@ -3,7 +3,7 @@ use Rattle.std.specs.Prelude.{◌≡◌, ◌∷◌, [], ℕ, List, Option, None,
 use Rattle.pt_io.specs.Clocks.{ClockView}
 use Rattle.pt_types.specs.declared.rows.Row.{Row}
 use Rattle.pt_semantics.specs.FixedOrder.{AreInTurn}
-use Rattle.pt_semantics.specs.Visits.{Made}
+use Rattle.pt_semantics.specs.Visits.{VisitRecord}
 use Rattle.pt_causality.specs.Ranked.{level_of}
 use Rattle.pt_offsets.specs.Plans.{Parts}
 use Rattle.pt_turn.specs.declared.fault.TurnFault.{TurnFault}
@@ -14,7 +14,7 @@ use Rattle.pt_engine.specs.Outcome.{IsOutcome as IsOutcomeByClocks}
 
 -- after the last of these visits there is no fault; or the visited platform has this one, and if it is that of a late message,
 -- the visit took the message
-abbrev pub LastVisitEnds : List Made → Option (ℕ × TurnFault) → Type 0
+abbrev pub LastVisitEnds : List VisitRecord → Option (ℕ × TurnFault) → Type 0
 LastVisitEnds [] fault = ⊥
 LastVisitEnds (m ∷ []) None = m.fault ≡ false
 LastVisitEnds (m ∷ []) (Some f) = (m.platform ≡ f.0) × (m.fault ≡ true) × (m.late ≡ is_late (Some f.1))

@@ -1,16 +1,20 @@
 //! What the engine asks the platforms between visits.
 
 ghost use Rattle.std.specs.Prelude.{◌≡◌, ◌<◌, ◌+◌, ◌⊎◌, MatchOption, length};
+ghost use Rattle.pt_io.specs.Clocks.{viewed};
 ghost use Rattle.pt_fixed_order.specs.Asked.{HasNone, HasOne};
 
+use pt_engine::all_idle_until;
 use pt_io::Clock;
+use pt_links::Pipe;
 use pt_turn::{Platform, TurnFault};
 use std::thread::yield_now;
 
 /// The number of the platform that is visited after this one: the next, or after the last the first.
 pub fn after(count: usize, number: usize) -> usize
     requires within { number < count }
-    ensures { ((number + 1 ≡ count) × (result ≡ 0)) ⊎ ((number + 1 < count) × (result ≡ number + 1)) }
+    ensures { ((number + 1 ≡ count) × (result ≡ 0))
+        ⊎ ((number + 1 < count) × (result ≡ number + 1)) }
 {
     if number + 1 == count { 0 } else { number + 1 }
 }
@@ -27,25 +31,16 @@ pub fn fault_of(platforms: &[Platform], place: usize) -> Option<(u32, TurnFault)
     }
 }
 
-/// Before the first platform is visited again: lets other processes run, if nothing happened in the last turn of any platform
-/// and the clocks rise by themselves.
-pub fn give_way<C: Clock>(platforms: &[Platform], clocks: &[C], next: usize) {
-    let rises = match clocks.first() {
-        Some(clock) => clock.rises_by_itself(),
-        None => false,
-    };
-    if next == 0 && rises && were_quiet(platforms) {
+/// Before the first platform is visited again: lets time pass until something can happen on a platform, if the clocks rise by
+/// themselves.
+pub fn rest<C: Clock>(platforms: &[Platform], pipes: &[Pipe], clocks: &mut [C], next: usize)
+    ensures { viewed C.readings C.ahead clocks.new ≡ viewed C.readings C.ahead clocks.old }
+{
+    if next != 0 || clocks.is_empty() || !clocks[0].rises_by_itself() {
+        return;
+    }
+    if let Some(until) = all_idle_until(platforms, pipes) {
+        clocks[0].wait(until);
         yield_now();
     }
-}
-
-/// Whether nothing happened in the last turn of any platform.
-fn were_quiet(platforms: &[Platform]) -> bool {
-    for i in 0..platforms.len() {
-        let history = platforms[i].history();
-        if history.turns() == 0 || !history.was_quiet() {
-            return false;
-        }
-    }
-    true
 }

@@ -37,8 +37,10 @@ pub fn alone<C: Clock, R: Wait>(
     requires ready { IsReady platforms.items }
     requires clocks { length clocks.items ≡ length platforms.items }
     requires most { (1 ≤ most) × (most ≤ 64) }
-    ensures outcome { IfOk result (λ e. (plan : Parts) (rows : ℕ → List Row) → AreReady plan rows platforms.items →
-        IsOutcome plan rows most (viewed C.readings C.ahead clocks.items) (viewed C.readings C.ahead e.clocks.items) e.rounds.platforms.items e.rounds.fault) }
+    ensures outcome { IfOk result (λ e. (plan : Parts) (rows : ℕ → List Row) →
+        AreReady plan rows platforms.items →
+        IsOutcome plan rows most (viewed C.readings C.ahead clocks.items)
+        (viewed C.readings C.ahead e.clocks.items) e.rounds.platforms.items e.rounds.fault) }
 {
     let mut platforms = platforms;
     let mut clocks = clocks;

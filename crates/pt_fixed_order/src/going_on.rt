@@ -8,7 +8,7 @@ ghost use Rattle.pt_fixed_order.specs.Outcome.{IsOutcome};
 ghost use Rattle.pt_engine.specs.Asked.{result_lists};
 ghost use Rattle.pt_fixed_order.specs.Between.{BeforeVisit};
 
-use crate::asking::{after, fault_of, give_way};
+use crate::asking::{after, fault_of, rest};
 use crate::visiting::visit_at;
 use pt_actors::Done;
 use pt_blocks::Blocks;
@@ -33,8 +33,13 @@ pub fn go_on<C: Clock, R: Wait>(
     most: usize,
 ) -> Result<Option<(u32, TurnFault)>, Memory>
     requires most { (1 ≤ most) × (most ≤ 64) }
-    requires begun { (plan : Parts) × (rows : ℕ → List Row) × (began : List ClockView) × BeforeVisit plan rows most 0 began (viewed C.readings C.ahead clocks.old) platforms.old pipes.old (result_lists results.old) }
-    ensures outcome { IfOk result (λ fault. (plan : Parts) (rows : ℕ → List Row) (began : List ClockView) → BeforeVisit plan rows most 0 began (viewed C.readings C.ahead clocks.old) platforms.old pipes.old (result_lists results.old) →
+    requires begun { (plan : Parts) × (rows : ℕ → List Row) × (began : List ClockView)
+        × BeforeVisit plan rows most 0 began
+        (viewed C.readings C.ahead clocks.old) platforms.old pipes.old (result_lists results.old) }
+    ensures outcome { IfOk result (λ fault.
+        (plan : Parts) (rows : ℕ → List Row) (began : List ClockView) →
+        BeforeVisit plan rows most 0 began
+        (viewed C.readings C.ahead clocks.old) platforms.old pipes.old (result_lists results.old) →
         IsOutcome plan rows most began (viewed C.readings C.ahead clocks.new) platforms.new fault) }
 {
     let mut number = 0;
@@ -49,7 +54,7 @@ pub fn go_on<C: Clock, R: Wait>(
             return Ok(None);
         }
         number = after(platforms.len(), number);
-        give_way(platforms, clocks, number);
+        rest(platforms, pipes, clocks, number);
     }
     unreachable!()
 }

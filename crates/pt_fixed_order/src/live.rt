@@ -1,4 +1,4 @@
-//! The engine of live runs.
+//! A theorem on visits in fixed order, of rows that arrive while a run goes on.
 
 mod laws;
 

@@ -27,10 +27,16 @@ pub fn visit_at<C: Clock>(
     number: usize,
 ) -> Result<(), Memory>
     requires most { (1 ≤ most) × (most ≤ 64) }
-    requires within { (number < length platforms.old) × (number < length clocks.old) × (number < length results.old) }
-    requires begun { (plan : Parts) × (rows : ℕ → List Row) × (began : List ClockView) × BeforeVisit plan rows most number began (viewed C.readings C.ahead clocks.old) platforms.old pipes.old (result_lists results.old) }
-    ensures visited { OnOk result ((plan : Parts) (rows : ℕ → List Row) (began : List ClockView) → BeforeVisit plan rows most number began (viewed C.readings C.ahead clocks.old) platforms.old pipes.old (result_lists results.old) →
-        AfterVisit plan rows most number began (viewed C.readings C.ahead clocks.new) platforms.new pipes.new (result_lists results.new)) }
+    requires within { (number < length platforms.old) × (number < length clocks.old)
+        × (number < length results.old) }
+    requires begun { (plan : Parts) × (rows : ℕ → List Row) × (began : List ClockView)
+        × BeforeVisit plan rows most number began
+        (viewed C.readings C.ahead clocks.old) platforms.old pipes.old (result_lists results.old) }
+    ensures visited { OnOk result ((plan : Parts) (rows : ℕ → List Row) (began : List ClockView) →
+        BeforeVisit plan rows most number began
+        (viewed C.readings C.ahead clocks.old) platforms.old pipes.old (result_lists results.old) →
+        AfterVisit plan rows most number began
+        (viewed C.readings C.ahead clocks.new) platforms.new pipes.new (result_lists results.new)) }
 {
     let reading = clocks[number].read();
     visit(

@@ -53,9 +53,17 @@ impl<J: Run, C: Clock> Model for LinkedPlatform<J, C> {
 
     ghost Value = { LinkedPlatformView };
 
-    ghost view = { λ s. record { platform = s.platform; readings = C.readings s.clock; outs = s.outlets.items; ins = s.inlets.items; marked = s.marked } };
+    ghost view = { λ s. record {
+      platform = s.platform;
+      readings = C.readings s.clock;
+      outs = s.outlets.items;
+      ins = s.inlets.items;
+      marked = s.marked;
+    } };
 
-    ghost invariant = { λ s. IsOfRun J.plan J.rows J.link (J.began s.platform.number) (J.fixed s.platform.number) (C.ahead s.clock) (C.readings s.clock) s.platform s.outlets.items s.inlets.items s.marked };
+    ghost invariant = { λ s. IsOfRun J.plan J.rows J.link (J.began s.platform.number)
+        (J.fixed s.platform.number) (C.ahead s.clock)
+        (C.readings s.clock) s.platform s.outlets.items s.inlets.items s.marked };
 }
 
 /// The result of a visit, from the fault of its turn.
@@ -76,8 +84,16 @@ impl<J: Run, C: Clock> LinkedPlatform<J, C> {
         outlets: Vec<(u32, Outlet)>,
         inlets: Vec<(u32, Inlet)>,
     ) -> LinkedPlatform<J, C>
-        requires kept { IsOfRun J.plan J.rows J.link (J.began platform.number) (J.fixed platform.number) (C.ahead clock) (C.readings clock) platform outlets.items inlets.items false }
-        ensures { result ≡ record { platform = platform; readings = C.readings clock; outs = outlets.items; ins = inlets.items; marked = false } }
+        requires kept { IsOfRun J.plan J.rows J.link (J.began platform.number)
+            (J.fixed platform.number) (C.ahead clock)
+            (C.readings clock) platform outlets.items inlets.items false }
+        ensures { result ≡ record {
+          platform = platform;
+          readings = C.readings clock;
+          outs = outlets.items;
+          ins = inlets.items;
+          marked = false;
+        } }
     {
         LinkedPlatform {
             platform,
@@ -105,10 +121,24 @@ impl<J: Run, C: Clock> LinkedPlatform<J, C> {
         self.marked
     }
 
+    /// Whether the readings of its clock rise by themselves, so that a worker with nothing to do may let time pass.
+    pub fn rises_by_itself(&self) -> bool {
+        self.clock.rises_by_itself()
+    }
+
     /// Its parts, and that they belong to the run.
     pub fn into_parts(self) -> Parts<C>
-        ensures kept { IsOfRun J.plan J.rows J.link (J.began result.platform.number) (J.fixed result.platform.number) (C.ahead result.clock) (C.readings result.clock) result.platform result.outlets.items result.inlets.items self.marked }
-        ensures same { self ≡ record { platform = result.platform; readings = C.readings result.clock; outs = result.outlets.items; ins = result.inlets.items; marked = self.marked } }
+        ensures kept { IsOfRun J.plan J.rows J.link (J.began result.platform.number)
+            (J.fixed result.platform.number) (C.ahead result.clock)
+            (C.readings result.clock) result.platform result.outlets.items result.inlets.items
+            self.marked }
+        ensures same { self ≡ record {
+          platform = result.platform;
+          readings = C.readings result.clock;
+          outs = result.outlets.items;
+          ins = result.inlets.items;
+          marked = self.marked;
+        } }
     {
         let LinkedPlatform {
             platform,
@@ -143,7 +173,8 @@ impl<J: Run, C: Clock> LinkedPlatform<J, C> {
         requires most { (1 ≤ most) × (most ≤ 64) }
         requires done { AreDone self.old.platform.plan.graph done.now }
         ensures number { self.new.platform.number ≡ self.old.platform.number }
-        ensures answer { AnswersVisit result most done.now self.old self.new tasks.old.tasks tasks.new.tasks }
+        ensures answer { AnswersVisit result most done.now self.old self.new tasks.old.tasks
+            tasks.new.tasks }
     {
         let marked = self.marked;
         show_running(&self.platform);

@@ -17,7 +17,8 @@ use std::sync::Wait;
 fn put_link<R: Wait>(rt: &R, platform: &mut Platform, link: u32, outlet: &mut Outlet)
     requires begun { 0 < length platform.old.turns }
     requires nothing_sent { on_link link (last_sent platform.old.turns) ≡ [] }
-    requires orderly { IsOrderlyBy outlet.old.limits (outlet.old.sent ++ on_link link platform.old.outbox) }
+    requires orderly { IsOrderlyBy outlet.old.limits
+        (outlet.old.sent ++ on_link link platform.old.outbox) }
     ensures { WentOut link platform.old platform.new outlet.old outlet.new }
 {
     for _k in 0..MESSAGES_A_VISIT {
@@ -36,7 +37,8 @@ pub(crate) fn put_all<R: Wait>(rt: &R, platform: &mut Platform, outlets: &mut [(
     requires begun { 0 < length platform.old.turns }
     requires nothing_sent { last_sent platform.old.turns ≡ [] }
     requires apart { NumbersDiffer (map end_out outlets.old) }
-    requires orderly { (i : ℕ) (e : ℕ × SentBy) → slice_get outlets.old i ≡ Some e → IsOrderlyBy e.1.limits (e.1.sent ++ on_link e.0 platform.old.outbox) }
+    requires orderly { (i : ℕ) (e : ℕ × SentBy) → slice_get outlets.old i ≡ Some e →
+        IsOrderlyBy e.1.limits (e.1.sent ++ on_link e.0 platform.old.outbox) }
     ensures { ArePut platform.old platform.new outlets.old outlets.new }
 {
     for k in 0..outlets.len() {

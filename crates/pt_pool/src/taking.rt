@@ -16,8 +16,10 @@ pub const MESSAGES_A_VISIT: usize = 64;
 /// Takes the messages of one link, until it is found empty or 64 were taken.
 fn take_link<R: Wait>(rt: &R, link: u32, inlet: &mut Inlet, given: &mut Vec<OnLink>)
     requires room { vec_len given.old + 64 ≤ vec_capacity given.old }
-    ensures room { (vec_len given.new ≤ vec_len given.old + 64) × (vec_capacity given.new ≡ vec_capacity given.old) }
-    ensures took { (ms : List Sent) × Took link inlet.old inlet.new ms × (given.new.items ≡ given.old.items ++ map (put_on link) ms) }
+    ensures room { (vec_len given.new ≤ vec_len given.old + 64)
+        × (vec_capacity given.new ≡ vec_capacity given.old) }
+    ensures took { (ms : List Sent) × Took link inlet.old inlet.new ms
+        × (given.new.items ≡ given.old.items ++ map (put_on link) ms) }
 {
     for _k in 0..MESSAGES_A_VISIT {
         let Some(message) = inlet.take(rt) else {

@@ -34,8 +34,11 @@ pub(crate) fn visit_platform<R: Wait>(
     requires fits { BelongTogether platform.old outlets.old inlets.old }
     requires most { (1 ≤ most) × (most ≤ 64) }
     requires done { AreDone platform.old.plan.graph done.now }
-    ensures visited { OnOk result (WasVisited reading most done.now platform.old platform.new outlets.old outlets.new inlets.old inlets.new tasks.old.tasks tasks.new.tasks) }
-    ensures refused { OnErr result ((platform.new ≡ record platform.old { room = platform.new.room }) × (outlets.new ≡ outlets.old) × (inlets.new ≡ inlets.old) × (tasks.new.tasks ≡ tasks.old.tasks)) }
+    ensures visited { OnOk result (WasVisited reading most done.now platform.old platform.new
+        outlets.old outlets.new inlets.old inlets.new tasks.old.tasks tasks.new.tasks) }
+    ensures refused { OnErr result ((platform.new
+        ≡ record platform.old { room = platform.new.room }) × (outlets.new ≡ outlets.old)
+        × (inlets.new ≡ inlets.old) × (tasks.new.tasks ≡ tasks.old.tasks)) }
 {
     show_running(platform);
     outgoing_lists_stay_orderly();

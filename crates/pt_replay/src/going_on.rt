@@ -38,8 +38,13 @@ pub fn go_on(
     air: &Air,
     begins: u64,
 ) -> Result<Option<(u32, TurnFault)>, Memory>
-    requires begun { (plan : Parts) × (rows : ℕ → List Row) × IsBeforeRound plan rows air.now 0 begins platforms.old airways.old (result_lists results.old) × PipesAreEmpty plan.graph pipes.old × ArriveFrom plan.graph arrivals.old airways.old }
-    ensures outcome { IfOk result (λ fault. (plan : Parts) (rows : ℕ → List Row) → IsBeforeRound plan rows air.now 0 begins platforms.old airways.old (result_lists results.old) →
+    requires begun { (plan : Parts) × (rows : ℕ → List Row)
+        × IsBeforeRound plan rows air.now 0 begins platforms.old airways.old
+        (result_lists results.old) × PipesAreEmpty plan.graph pipes.old
+        × ArriveFrom plan.graph arrivals.old airways.old }
+    ensures outcome { IfOk result (λ fault. (plan : Parts) (rows : ℕ → List Row) →
+        IsBeforeRound plan rows air.now 0 begins platforms.old airways.old
+        (result_lists results.old) →
         IsOutcome plan (level_of plan.ranks) rows air.now platforms.new fault) }
 {
     let mut now = begins;
@@ -63,7 +68,8 @@ pub fn go_on(
 /// The least true time, in microseconds, at which something can happen; there is one.
 pub fn time_after(platforms: &[Platform], airways: &[Airway], air: &Air) -> Result<u64, Memory>
     requires some { ((time : ℕ) → IsMoment air.now platforms.now airways.now time → ⊥) → ⊥ }
-    ensures { IfOk result (λ time. IsLeastNumber (IsMoment air.now platforms.now airways.now) (Some time)) }
+    ensures { IfOk result (λ time. IsLeastNumber (IsMoment air.now platforms.now airways.now)
+        (Some time)) }
 {
     match next_time(platforms, airways, air)? {
         None => unreachable!(),

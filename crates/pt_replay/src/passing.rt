@@ -31,8 +31,11 @@ fn visit_one(
     air: &Air,
     now: TrueTime,
 ) -> Result<bool, Memory>
-    requires { MayBeVisited air.now now results.old.items platform.old airways.old arrivals.old pipes.old }
-    ensures visit { IfOk result (λ still. WasVisitedInRound air.now now results.old.items results.new.items platform.old platform.new airways.old airways.new still) }
+    requires { MayBeVisited air.now now results.old.items platform.old airways.old arrivals.old
+        pipes.old }
+    ensures visit { IfOk result (λ still.
+        WasVisitedInRound air.now now results.old.items results.new.items platform.old platform.new
+        airways.old airways.new still) }
     ensures arrivals { OnOk result (ArriveFrom platform.old.plan.graph arrivals.new airways.new) }
     ensures pipes { OnOk result (pipes.new ≡ pipes.old) }
 {
@@ -57,11 +60,21 @@ pub fn pass(
     air: &Air,
     now: TrueTime,
 ) -> Result<bool, Memory>
-    requires begun { (plan : Parts) × (rows : ℕ → List Row) × (count : ℕ) × IsBeforeRound plan rows air.now count now platforms.old airways.old (result_lists results.old) × PipesAreEmpty plan.graph pipes.old × ArriveFrom plan.graph arrivals.old airways.old }
-    ensures passed { IfOk result (λ quiet. (plan : Parts) (rows : ℕ → List Row) (count : ℕ) (s : IsBeforeRound plan rows air.now count now platforms.old airways.old (result_lists results.old)) →
-        HavePassed plan rows air.now now s.state (length platforms.old) platforms.new airways.new (result_lists results.new) quiet) }
-    ensures arrivals { OnOk result ((plan : Parts) (rows : ℕ → List Row) (count : ℕ) → IsBeforeRound plan rows air.now count now platforms.old airways.old (result_lists results.old) →
-        ArriveFrom plan.graph arrivals.old airways.old → ArriveFrom plan.graph arrivals.new airways.new) }
+    requires begun { (plan : Parts) × (rows : ℕ → List Row) × (count : ℕ)
+        × IsBeforeRound plan rows air.now count now platforms.old airways.old
+        (result_lists results.old) × PipesAreEmpty plan.graph pipes.old
+        × ArriveFrom plan.graph arrivals.old airways.old }
+    ensures passed { IfOk result (λ quiet.
+        (plan : Parts) (rows : ℕ → List Row) (count : ℕ)
+        (s : IsBeforeRound plan rows air.now count now platforms.old airways.old
+        (result_lists results.old)) →
+        HavePassed plan rows air.now now s.state (length platforms.old) platforms.new airways.new
+        (result_lists results.new) quiet) }
+    ensures arrivals { OnOk result ((plan : Parts) (rows : ℕ → List Row) (count : ℕ) →
+        IsBeforeRound plan rows air.now count now platforms.old airways.old
+        (result_lists results.old) →
+        ArriveFrom plan.graph arrivals.old airways.old →
+        ArriveFrom plan.graph arrivals.new airways.new) }
     ensures pipes { OnOk result (pipes.new ≡ pipes.old) }
 {
     let mut quiet = true;

@@ -38,8 +38,11 @@ pub fn replayed(
 ) -> Result<Rounds, Memory>
     requires some { 0 < length platforms.items }
     requires ready { IsReady platforms.items }
-    requires transits { (i : ℕ) (v : PlatformView) → slice_get platforms.items i ≡ Some v → length air.now.transits ≡ length v.plan.graph.links }
-    ensures outcome { IfOk result (λ rounds. (plan : Parts) (rows : ℕ → List Row) → AreReady plan rows platforms.items → IsOutcome plan (level_of plan.ranks) rows air.now rounds.platforms.items rounds.fault) }
+    requires transits { (i : ℕ) (v : PlatformView) → slice_get platforms.items i ≡ Some v →
+        length air.now.transits ≡ length v.plan.graph.links }
+    ensures outcome { IfOk result (λ rounds. (plan : Parts) (rows : ℕ → List Row) →
+        AreReady plan rows platforms.items →
+        IsOutcome plan (level_of plan.ranks) rows air.now rounds.platforms.items rounds.fault) }
 {
     let mut platforms = platforms;
     let links = platforms[0].plan().graph().links.as_slice().len();

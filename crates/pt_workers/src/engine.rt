@@ -44,11 +44,14 @@ fn run_named<J: Run + Send + Sync, C: Clock + Send, G: Gate + Sync, R: Threads +
     requires fresh { AreNew platforms.items }
     requires clocks { length clocks.items ≡ length platforms.items }
     requires begun { AreBegun J.began J.fixed (viewed C.readings C.ahead clocks.items) }
-    requires open { AreOpenEnds (arc_value plan) (length (arc_value plan).graph.links) ends.outlets.items ends.inlets.items }
+    requires open { AreOpenEnds (arc_value plan)
+        (length (arc_value plan).graph.links) ends.outlets.items ends.inlets.items }
     requires named { AreNamedBy J.link ends.outlets.items }
     requires most { (1 ≤ most) × (most ≤ 32) }
-    ensures outcome { IfOk result (λ e. (p : Parts) (rows : ℕ → List Row) → AreReady p rows platforms.items →
-        IsOutcome p rows (viewed C.readings C.ahead clocks.items) (viewed C.readings C.ahead e.clocks.items) e.rounds.platforms.items e.rounds.fault) }
+    ensures outcome { IfOk result (λ e. (p : Parts) (rows : ℕ → List Row) →
+        AreReady p rows platforms.items →
+        IsOutcome p rows (viewed C.readings C.ahead clocks.items)
+        (viewed C.readings C.ahead e.clocks.items) e.rounds.platforms.items e.rounds.fault) }
 {
     let shared = Arc::try_clone(&plan)?;
     let linked_platforms = make_linked::<J, C>(alloc, &plan, platforms, clocks, ends)?;
@@ -97,8 +100,10 @@ pub fn threaded<C: Clock + Send, G: Gate + Sync, R: Threads + Wait + Sync>(
     requires ready { IsReady platforms.items }
     requires clocks { length clocks.items ≡ length platforms.items }
     requires most { (1 ≤ most) × (most ≤ 32) }
-    ensures outcome { IfOk result (λ e. (plan : Parts) (rows : ℕ → List Row) → AreReady plan rows platforms.items →
-        IsOutcome plan rows (viewed C.readings C.ahead clocks.items) (viewed C.readings C.ahead e.clocks.items) e.rounds.platforms.items e.rounds.fault) }
+    ensures outcome { IfOk result (λ e. (plan : Parts) (rows : ℕ → List Row) →
+        AreReady plan rows platforms.items →
+        IsOutcome plan rows (viewed C.readings C.ahead clocks.items)
+        (viewed C.readings C.ahead e.clocks.items) e.rounds.platforms.items e.rounds.fault) }
 {
     let plan = Arc::try_clone(platforms[0].plan())?;
     let ends = open_links(alloc, &plan)?;

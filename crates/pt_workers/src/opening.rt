@@ -38,7 +38,8 @@ fn bounds(plan: &Plan, link: &Link) -> Bounds
 
 /// Opens a new link for each link of a plan's graph.
 pub(crate) fn open_links(alloc: Global, plan: &Plan) -> Result<Ends, Memory>
-    ensures { IfOk result (λ e. AreOpenEnds plan.now (length plan.now.graph.links) e.outlets.items e.inlets.items) }
+    ensures { IfOk result (λ e. AreOpenEnds plan.now
+        (length plan.now.graph.links) e.outlets.items e.inlets.items) }
 {
     let links = plan.graph().links.as_slice();
     let mut outlets = Vec::with_capacity(alloc, links.len())?;
@@ -54,8 +55,10 @@ pub(crate) fn open_links(alloc: Global, plan: &Plan) -> Result<Ends, Memory>
 
 /// The platforms at the two ends of each link of a graph.
 pub(crate) fn owners_of(alloc: Global, graph: &Graph) -> Result<Owners, Memory>
-    ensures senders { IfOk result (λ o. AreOwners graph.now leaves (length graph.now.links) o.senders.items) }
-    ensures receivers { IfOk result (λ o. AreOwners graph.now receiving_platform (length graph.now.links) o.receivers.items) }
+    ensures senders { IfOk result (λ o.
+        AreOwners graph.now leaves (length graph.now.links) o.senders.items) }
+    ensures receivers { IfOk result (λ o.
+        AreOwners graph.now receiving_platform (length graph.now.links) o.receivers.items) }
 {
     let links = graph.links.as_slice();
     let mut senders = Vec::with_capacity(alloc, links.len())?;

@@ -29,11 +29,13 @@ pub(crate) fn make_linked<J: Run, C: Clock>(
     requires fresh { AreNew platforms.items }
     requires clocks { length clocks.items ≡ length platforms.items }
     requires begun { AreBegun J.began J.fixed (viewed C.readings C.ahead clocks.items) }
-    requires open { AreOpenEnds plan.now (length plan.now.graph.links) ends.outlets.items ends.inlets.items }
+    requires open { AreOpenEnds plan.now
+        (length plan.now.graph.links) ends.outlets.items ends.inlets.items }
     requires named { AreNamedBy J.link ends.outlets.items }
     ensures admitted { OnOk result (IsAdmitted plan.now) }
     ensures count { IfOk result (λ v. vec_len v ≡ length plan.now.graph.platforms) }
-    ensures order { IfOk result (λ v. numbers v.items ≡ count_up (length plan.now.graph.platforms)) }
+    ensures order { IfOk result (λ v.
+        numbers v.items ≡ count_up (length plan.now.graph.platforms)) }
 {
     let sides = owners_of(alloc, plan.graph())?;
     let Ends {

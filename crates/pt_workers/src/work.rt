@@ -9,6 +9,7 @@ mod firing;
 mod order;
 mod places;
 mod results;
+mod signs;
 mod threads;
 mod worker_hand;
 mod workers;

@@ -1,6 +1,5 @@
 //! Where threads wait for each other, and where firings are counted.
 
-use pt_types::Task;
 use pt_workers::work::Gate;
 use std::alloc::{AllocError, Global};
 use std::sync::atomic::{AtomicU64, Ordering};
@@ -49,7 +48,7 @@ impl Meeting {
 
 impl Gate for Meeting {
     /// The first firing waits for the second.
-    fn at(&self, _platform: u32, _task: &Task) {
+    fn at(&self, _platform: u32, _number: u64) {
         if self.come() {
             self.wait();
         }
@@ -99,10 +98,10 @@ impl Sharing {
 }
 
 impl Gate for Sharing {
-    fn at(&self, platform: u32, task: &Task) {
-        if let Some(count) = self.fired.as_slice().get(task.number as usize) {
+    fn at(&self, platform: u32, number: u64) {
+        if let Some(count) = self.fired.as_slice().get(number as usize) {
             count.fetch_add(1, Ordering::SeqCst);
         }
-        self.meeting.at(platform, task);
+        self.meeting.at(platform, number);
     }
 }

@@ -126,14 +126,17 @@ pub fn leads_to(graph: &Graph, number: u32, link: u32) -> bool
 
 /// Whether the messages of a link are orderly.
 fn is_orderly(graph: &Graph, level: u32, messages: &[Message]) -> bool
-    ensures { result ≡ true → InOrder messages.now × Each (FitsStep graph.now.until (length graph.now.actors) level) messages.now }
+    ensures { result ≡ true → InOrder messages.now
+        × Each (FitsStep graph.now.until (length graph.now.actors) level) messages.now }
 {
     are_in_order(messages) && all_fit(graph.until, graph.actors.as_slice().len(), level, messages)
 }
 
 /// Whether all messages of each link that leads to the platform are orderly.
 fn are_orderly(alloc: Global, platform: &Platform, messages: &[OnLink]) -> Result<bool, AllocError>
-    ensures { IfOk result (λ holds. holds ≡ true → AreOrderly platform.now.plan.graph (level_at platform.now) platform.now.number messages.now) }
+    ensures { IfOk result (λ holds. holds ≡ true →
+        AreOrderly platform.now.plan.graph
+        (level_at platform.now) platform.now.number messages.now) }
 {
     let plan = platform.plan();
     let graph = plan.graph();
@@ -152,7 +155,9 @@ fn are_orderly(alloc: Global, platform: &Platform, messages: &[OnLink]) -> Resul
 
 /// Whether these messages may come to the platform after those that it took.
 pub fn may_come(alloc: Global, platform: &Platform, messages: &[OnLink]) -> Result<bool, AllocError>
-    ensures { IfOk result (λ may. may ≡ true → MayCome platform.now.plan.graph (level_at platform.now) platform.now.number (state_at platform.now) messages.now) }
+    ensures { IfOk result (λ may. may ≡ true →
+        MayCome platform.now.plan.graph (level_at platform.now) platform.now.number
+        (state_at platform.now) messages.now) }
 {
     if !all_come_to(platform.plan().graph(), platform.number(), messages) {
         return Ok(false);

@@ -10,7 +10,8 @@ use std::alloc::{AllocError, Global};
 
 /// Whether a row fits an actor: it is a sensor of the platform, and sees the row within its bound and the horizon.
 fn fits(graph: &Graph, platform: u32, actor: u32, row: Row) -> bool
-    ensures { result ≡ true → IsHanded graph.now platform (record { actor = actor; rows = row ∷ [] }) }
+    ensures { result ≡ true → IsHanded graph.now platform
+        (record { actor = actor; rows = row ∷ [] }) }
 {
     match graph.actors.as_slice().get(actor as usize) {
         None => false,

@@ -1,5 +1,5 @@
 -- What is true before a visit still is, if a row arrives.
-use Rattle.std.proofs.Common.{◌≡◌, ◌≢◌, ◌<◌, ◌≤◌, ◌==◌, ℕ, false, true, List, [], ◌∷◌, None, Some, arith, length, length-set, set, sym, ap, subst, ◌∙◌, ⊎_elim, eqb-true, ne_eqb}
+use Rattle.std.proofs.Common.{◌≡◌, ◌≢◌, ◌<◌, ◌≤◌, ◌==◌, ℕ, false, true, List, [], ◌∷◌, Some, length-set, sym, ap, subst, ◌∙◌, ⊎_elim, eqb-true}
 use Rattle.std.specs.Prelude.{slice_get}
 use Rattle.std.proofs.lemmas.Bool.{cases_Bool, cond-true, cond-false}
 use Rattle.pt_types.specs.declared.graph.Graph.{Graph}
@@ -12,13 +12,12 @@ use Rattle.pt_semantics.specs.Rows.{FitsRow}
 use Rattle.pt_laws.proofs.Onward.{cases_same}
 use Rattle.pt_causality.specs.Ranked.{level_of}
 use Rattle.pt_offsets.specs.Plans.{Parts}
-use Rattle.pt_live_laws.specs.Growth.Growing.{SeenAfter, at_home, followed, grown_together, just}
+use Rattle.pt_live_laws.specs.Growth.Growing.{at_home, grown_together, just}
 use Rattle.pt_live_laws.proofs.Growth.RowsNext.{rows_next}
 use Rattle.pt_live_laws.specs.Between.{AreToCome}
 use Rattle.pt_live_laws.proofs.Between.{is_going_grown, sound_grown}
 use Rattle.pt_turn.proofs.Arrives.Places.{just_at_home}
-use Rattle.pt_turn.specs.Arrived.{HasArrived, MayArrive}
-use Rattle.pt_turn.specs.Platforms.{PlatformView, rows_at, state_at}
+use Rattle.pt_turn.specs.Platforms.{PlatformView, rows_at}
 use Rattle.pt_engine.proofs.Changed.{set_cases}
 use Rattle.pt_engine.proofs.MoreShown.{none_away, shown_grows}
 use Rattle.pt_fixed_order.specs.Between.{IsLastOf}

@@ -14,7 +14,8 @@ pub(crate) const RESULTS_A_VISIT: usize = 32;
 pub(crate) fn collect_all(board: &Board, keeper: &mut Keeper, results: &mut Vec<Done>)
     requires table { keeper.old.table ≡ board.now.table }
     requires room { vec_len results.old + 32 ≤ vec_capacity results.old }
-    ensures { (ds : List Whole) × HaveCollected keeper.old keeper.new ds × (results.new.items ≡ results.old.items ++ ds) }
+    ensures { (ds : List Whole) × HaveCollected keeper.old keeper.new ds
+        × (results.new.items ≡ results.old.items ++ ds) }
 {
     for _k in 0..RESULTS_A_VISIT {
         let Some(done) = board.collect(keeper) else {

@@ -37,9 +37,14 @@ impl<J: Run, B: Boards, C: Clock> Model for Station<J, B, C> {
 
     ghost Value = { StationView };
 
-    ghost view = { λ s. record { linked = s.linked; keeper = s.keeper; results = s.results.items } };
+    ghost view = { λ s. record {
+      linked = s.linked;
+      keeper = s.keeper;
+      results = s.results.items;
+    } };
 
-    ghost invariant = { λ s. IsStation J.plan B.table (arc_value s.board) s.linked s.keeper s.results.items };
+    ghost invariant = { λ s. IsStation J.plan B.table
+        (arc_value s.board) s.linked s.keeper s.results.items };
 }
 
 impl<J: Run, B: Boards, C: Clock> Station<J, B, C> {
@@ -50,7 +55,8 @@ impl<J: Run, B: Boards, C: Clock> Station<J, B, C> {
         board: Arc<Board>,
         keeper: Keeper,
     ) -> Station<J, B, C>
-        requires table { (keeper.table ≡ (arc_value board).table) × (keeper.table ≡ B.table linked.platform.number) }
+        requires table { (keeper.table ≡ (arc_value board).table)
+            × (keeper.table ≡ B.table linked.platform.number) }
         requires graph { keeper.knows.graph ≡ Some (plan_graph J.plan) }
         requires none { keeper.next ≡ 0 }
         ensures { result ≡ record { linked = linked; keeper = keeper; results = [] } }
@@ -79,6 +85,11 @@ impl<J: Run, B: Boards, C: Clock> Station<J, B, C> {
         ensures { result ≡ self.now.linked.marked }
     {
         self.linked.marked()
+    }
+
+    /// Whether the readings of its clock rise by themselves, so that a worker with nothing to do may let time pass.
+    pub fn rises_by_itself(&self) -> bool {
+        self.linked.rises_by_itself()
     }
 
     /// Its board, which other threads share.
@@ -110,7 +121,8 @@ impl<J: Run, B: Boards, C: Clock> Station<J, B, C> {
     /// Keeps a result for the next visit. If memory runs out, nothing is changed.
     pub fn keep(&mut self, done: Done) -> Result<(), Memory>
         requires { IsDone (plan_graph J.plan) done }
-        ensures kept { OnOk result (self.new ≡ record self.old { results = self.old.results ++ done ∷ [] }) }
+        ensures kept { OnOk result (self.new
+            ≡ record self.old { results = self.old.results ++ done ∷ [] }) }
         ensures unchanged { OnErr result (self.new ≡ self.old) }
     {
         self.results.push(done)?;
@@ -133,7 +145,9 @@ impl<J: Run, B: Boards, C: Clock> Station<J, B, C> {
     ) -> Result<(), VisitFault>
         requires no_fault { self.old.linked.platform.fault ≡ None }
         requires most { (1 ≤ most) × (most ≤ 32) }
-        ensures answer { StationAnswers result most (plan_graph J.plan) self.old.linked self.new.linked self.old.keeper self.new.keeper self.old.results self.new.results tasks.old.tasks tasks.new.tasks }
+        ensures answer { StationAnswers result most
+            (plan_graph J.plan) self.old.linked self.new.linked self.old.keeper self.new.keeper
+            self.old.results self.new.results tasks.old.tasks tasks.new.tasks }
         ensures number { self.new.linked.platform.number ≡ self.old.linked.platform.number }
     {
         visit_over(

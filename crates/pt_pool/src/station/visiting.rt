@@ -18,9 +18,11 @@ use std::sync::Wait;
 
 /// Reserves memory for 32 results, and for `most` tasks in case no slot is free.
 fn make_room(results: &mut Vec<Done>, tasks: &mut Tasks, most: usize) -> Result<(), Memory>
-    ensures results { (results.new.items ≡ results.old.items) × (vec_len results.new ≡ vec_len results.old) }
+    ensures results { (results.new.items ≡ results.old.items)
+        × (vec_len results.new ≡ vec_len results.old) }
     ensures tasks { tasks.new.tasks ≡ tasks.old.tasks }
-    ensures room { OnOk result ((vec_len results.new + 32 ≤ vec_capacity results.new) × (most ≤ tasks.new.spare)) }
+    ensures room { OnOk result ((vec_len results.new + 32 ≤ vec_capacity results.new)
+        × (most ≤ tasks.new.spare)) }
 {
     results.reserve(RESULTS_A_VISIT)?;
     tasks.reserve(most)
@@ -44,7 +46,9 @@ pub(crate) fn visit_over<J: Run, C: Clock, R: Wait>(
     requires graph { keeper.old.knows.graph ≡ Some (plan_graph J.plan) }
     requires done { AreDone (plan_graph J.plan) results.old.items }
     requires few { keeper.old.next ≤ linked.old.platform.claims }
-    ensures answer { StationAnswers result most (plan_graph J.plan) linked.old linked.new keeper.old keeper.new results.old.items results.new.items tasks.old.tasks tasks.new.tasks }
+    ensures answer { StationAnswers result most
+        (plan_graph J.plan) linked.old linked.new keeper.old keeper.new results.old.items
+        results.new.items tasks.old.tasks tasks.new.tasks }
 {
     show_admitted(linked.platform());
     let Ok(()) = make_room(results, tasks, most) else {

@@ -87,7 +87,8 @@ impl Airway {
 
     /// When the oldest message arrives. No other message arrives before it.
     pub fn next_arrival(&self) -> Option<u64>
-        ensures next { result ≡ option_map (λ (m : OnWay). m.arrives) (slice_get self.now.on_way 0) }
+        ensures next { result ≡ option_map (λ (m : OnWay). m.arrives)
+            (slice_get self.now.on_way 0) }
         ensures order { NeverFall 0 self.now.on_way self.now.latest }
     {
         let first = self.on_way.front()?;

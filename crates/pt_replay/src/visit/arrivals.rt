@@ -10,7 +10,8 @@ use pt_types::Graph;
 /// Lowers the time that the list has for a platform to this arrival, if it is later.
 fn lower(arrivals: &mut [u64], number: u32, arrival: u64)
     ensures here { slice_index_or arrivals.new number 0 ≤ arrival }
-    ensures not_raised { (i : ℕ) → slice_index_or arrivals.new i 0 ≤ slice_index_or arrivals.old i 0 }
+    ensures not_raised { (i : ℕ) → slice_index_or arrivals.new i 0
+        ≤ slice_index_or arrivals.old i 0 }
 {
     let place = number as usize;
     if place >= arrivals.len() {

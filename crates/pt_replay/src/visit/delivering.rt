@@ -15,8 +15,10 @@ use pt_types::Graph;
 /// Moves the messages that have arrived from an airway into an empty pipe, as many as it holds.
 fn deliver_from(airway: &mut Airway, pipe: &mut Pipe, now: TrueTime)
     requires empty { pipe.old ≡ [] }
-    ensures pipe { pipe.new ≡ map (λ (m : InAir). m.message) (take (came now airway.old.on_way) airway.old.on_way) }
-    ensures airway { airway.new ≡ record airway.old { on_way = drop (came now airway.old.on_way) airway.old.on_way } }
+    ensures pipe { pipe.new ≡ map (λ (m : InAir). m.message)
+        (take (came now airway.old.on_way) airway.old.on_way) }
+    ensures airway { airway.new ≡ record airway.old
+        { on_way = drop (came now airway.old.on_way) airway.old.on_way } }
 {
     for _k in 0..PLACES {
         let Some(message) = airway.arrived(now) else {

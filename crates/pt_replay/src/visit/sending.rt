@@ -4,6 +4,7 @@ ghost use Rattle.std.specs.Prelude.{◌≡◌, [], IfOk, OnOk, ℕ, false, lengt
 ghost use Rattle.pt_semantics.specs.TrueTime.{map_from, put_all, put_link};
 
 use crate::airway::Airway;
+use pt_engine::are_empty;
 use pt_links::Pipe;
 use pt_tags::{Memory, TrueTime};
 use pt_types::{Air, Graph};
@@ -25,18 +26,6 @@ fn send_from(
     Ok(())
 }
 
-/// Whether no pipe has a message.
-fn are_empty(pipes: &[Pipe]) -> bool
-    ensures { result ≡ true → (l : ℕ) → slice_index_or pipes.now l [] ≡ [] }
-{
-    for l in 0..pipes.len() {
-        if pipes[l].peek().is_some() {
-            return false;
-        }
-    }
-    true
-}
-
 /// Puts all messages in the pipes on their way, and returns whether there were any.
 // Not inlined: most visits send none.
 #[inline(never)]
@@ -50,7 +39,9 @@ fn send_all(
     requires airways { length airways.old ≡ length graph.now.links }
     requires pipes { length pipes.old ≡ length graph.now.links }
     requires transits { length air.now.transits ≡ length graph.now.links }
-    ensures airways { OnOk result (airways.new ≡ map_from (λ l. put_link air.now graph.now now l (slice_index_or pipes.old l [])) 0 airways.old) }
+    ensures airways { OnOk result (airways.new
+        ≡ map_from (λ l. put_link air.now graph.now now l
+        (slice_index_or pipes.old l [])) 0 airways.old) }
     ensures pipes { OnOk result (pipes.new ≡ map (λ pipe. []) pipes.old) }
     ensures none { IfOk result (λ sent. sent ≡ false → airways.new ≡ airways.old) }
 {
@@ -85,7 +76,9 @@ pub fn send(
     requires airways { length airways.old ≡ length graph.now.links }
     requires pipes { length pipes.old ≡ length graph.now.links }
     requires transits { length air.now.transits ≡ length graph.now.links }
-    ensures airways { OnOk result (airways.new ≡ map_from (λ l. put_link air.now graph.now now l (slice_index_or pipes.old l [])) 0 airways.old) }
+    ensures airways { OnOk result (airways.new
+        ≡ map_from (λ l. put_link air.now graph.now now l
+        (slice_index_or pipes.old l [])) 0 airways.old) }
     ensures pipes { OnOk result (pipes.new ≡ map (λ pipe. []) pipes.old) }
     ensures none { IfOk result (λ sent. sent ≡ false → airways.new ≡ airways.old) }
 {

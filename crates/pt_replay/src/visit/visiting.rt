@@ -29,7 +29,8 @@ fn rests(
     reading: Reading,
 ) -> Result<bool, Memory>
     requires no_fault { platform.old.fault ≡ None }
-    ensures rested { IfOk result (λ rested. rested ≡ true → (results.now ≡ []) × (now < arrival) × HasRested platform.old platform.new reading) }
+    ensures rested { IfOk result (λ rested. rested ≡ true → (results.now ≡ []) × (now < arrival)
+        × HasRested platform.old platform.new reading) }
     ensures awake { IfOk result (λ rested. rested ≡ false → platform.new ≡ platform.old) }
 {
     if !results.is_empty() {
@@ -55,11 +56,15 @@ fn full_visit(
     now: TrueTime,
     reading: Reading,
 ) -> Result<bool, Memory>
-    requires may_be_visited { MayBeVisited air.now now results.old.items platform.old airways.old arrivals.now pipes.old }
+    requires may_be_visited { MayBeVisited air.now now results.old.items platform.old airways.old
+        arrivals.now pipes.old }
     requires reading { reading ≡ reading_at air.now platform.old.number now }
-    ensures visit { OnOk result (WasVisitedAt air.now now results.old.items results.new.items platform.old platform.new airways.old airways.new) }
+    ensures visit { OnOk result (WasVisitedAt air.now now results.old.items results.new.items
+        platform.old platform.new airways.old airways.new) }
     ensures pipes { OnOk result (pipes.new ≡ pipes.old) }
-    ensures none { IfOk result (λ sent. sent ≡ false → airways.new ≡ map_from (left_on platform.old.plan.graph platform.old.number now) 0 airways.old) }
+    ensures none { IfOk result (λ sent. sent ≡ false →
+        airways.new ≡ map_from (left_on platform.old.plan.graph platform.old.number now) 0
+        airways.old) }
 {
     let number = platform.number();
     deliver(
@@ -102,8 +107,10 @@ pub fn visit_at(
     air: &Air,
     now: TrueTime,
 ) -> Result<(), Memory>
-    requires { MayBeVisited air.now now results.old.items platform.old airways.old arrivals.old pipes.old }
-    ensures visit { OnOk result (WasVisitedAt air.now now results.old.items results.new.items platform.old platform.new airways.old airways.new) }
+    requires { MayBeVisited air.now now results.old.items platform.old airways.old arrivals.old
+        pipes.old }
+    ensures visit { OnOk result (WasVisitedAt air.now now results.old.items results.new.items
+        platform.old platform.new airways.old airways.new) }
     ensures arrivals { OnOk result (ArriveFrom platform.old.plan.graph arrivals.new airways.new) }
     ensures pipes { OnOk result (pipes.new ≡ pipes.old) }
 {

@@ -1,12 +1,11 @@
 -- Linked platforms whose numbers are counted up are in order.
-use Rattle.std.proofs.Common.{◌≡◌, ℕ, zero, suc, ◌<◌, List, [], ◌∷◌, ◌++◌, Some, length, map, refl, sym, ap, ◌∙◌, ⊎_elim, arith, length-append}
+use Rattle.std.proofs.Common.{◌≡◌, ℕ, zero, suc, ◌<◌, List, [], ◌∷◌, ◌++◌, Some, length, refl, sym, ap, ◌∙◌, ⊎_elim, arith, length-append}
 use Rattle.std.specs.Prelude.{slice_get}
 use Rattle.std.proofs.lemmas.Bool.{cases_eq}
 use Rattle.std.proofs.lemmas.Option.{slice_get_within}
 use Rattle.pt_pool.specs.LinkedPlatform.{LinkedPlatformView}
 use Rattle.pt_pool.proofs.Lanes.{get_map, same_some}
-use Rattle.pt_workers.specs.Working.Orders.{count_up, numbers}
-use Rattle.pt_workers.specs.LinkEnds.Settled.{AreByNumber}
+use Rattle.pt_workers.specs.Working.Orders.{count_up}
 use Rattle.pt_workers.specs.LinkEnds.Numbered.{NumberedInOrder}
 use Rattle.pt_workers.proofs.LinkEnds.Lists.{get_front, get_last}
 

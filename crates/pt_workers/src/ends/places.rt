@@ -16,8 +16,10 @@ pub fn collect<T: Drop>(
     requires few { length owners.now ≤ 2 ^ 32 }
     requires full { (l : ℕ) → slice_get owners.now l ≡ Some owner → PlaceIsFull places.old.items l }
     ensures count { vec_len places.new ≡ vec_len places.old }
-    ensures collected { IfOk result (λ things. AreCollected owners.now owner (length owners.now) places.old.items things.items) }
-    ensures others { (l : ℕ) → IsElsewhere owners.now owner l → slice_get places.new.items l ≡ slice_get places.old.items l }
+    ensures collected { IfOk result (λ things.
+        AreCollected owners.now owner (length owners.now) places.old.items things.items) }
+    ensures others { (l : ℕ) → IsElsewhere owners.now owner l →
+        slice_get places.new.items l ≡ slice_get places.old.items l }
 {
     let mut things = Vec::with_capacity(alloc, owners.len())?;
     for l in 0..owners.len() {
@@ -38,7 +40,8 @@ pub fn lay<T: Drop>(mut things: Vec<(u32, T)>, places: &mut Vec<Option<T>>)
     requires distinct { AreDistinct things.items }
     ensures count { vec_len places.new ≡ vec_len places.old }
     ensures laid { AreLaid 0 things.items places.new.items }
-    ensures others { (l : ℕ) → ((i : ℕ) (e : ℕ × _) → slice_get things.items i ≡ Some e → e.0 ≡ l → ⊥) → slice_get places.new.items l ≡ slice_get places.old.items l }
+    ensures others { (l : ℕ) → ((i : ℕ) (e : ℕ × _) → slice_get things.items i ≡ Some e → e.0 ≡ l →
+        ⊥) → slice_get places.new.items l ≡ slice_get places.old.items l }
 {
     while let Some((number, thing)) = things.pop() {
         let place = &mut places[number as usize];

@@ -45,10 +45,14 @@ pub fn settle_run<J: Run, C: Clock, R: Wait>(
     requires plan { J.plan ≡ Some plan.now }
     requires order { AreByNumber linked_platforms.items }
     requires count { length linked_platforms.items ≡ length plan.now.graph.platforms }
-    ensures platforms { IfOk result (λ r. r.platforms.items ≡ map platform_in linked_platforms.items) }
-    ensures clocks { IfOk result (λ r. map C.readings r.clocks.items ≡ map readings_in linked_platforms.items) }
-    ensures of_run { IfOk result (λ r. AreLinkedPlatforms J.plan J.rows J.link J.began J.fixed 0 linked_platforms.items) }
-    ensures matched { IfOk result (λ r. AreMatched plan.now.graph (histories_of r.platforms.items)) }
+    ensures platforms { IfOk result (λ r.
+        r.platforms.items ≡ map platform_in linked_platforms.items) }
+    ensures clocks { IfOk result (λ r.
+        map C.readings r.clocks.items ≡ map readings_in linked_platforms.items) }
+    ensures of_run { IfOk result (λ r.
+        AreLinkedPlatforms J.plan J.rows J.link J.began J.fixed 0 linked_platforms.items) }
+    ensures matched { IfOk result (λ r.
+        AreMatched plan.now.graph (histories_of r.platforms.items)) }
 {
     let links = plan.graph().links.as_slice().len();
     let Pieces {
@@ -69,12 +73,19 @@ fn take_apart<J: Run, C: Clock>(
 ) -> Result<Pieces<C>, Memory>
     requires order { AreByNumber linked_platforms.items }
     requires links { length (plan_graph J.plan).links ≤ links }
-    ensures platforms { IfOk result (λ p. p.platforms.items ≡ map platform_in linked_platforms.items) }
-    ensures clocks { IfOk result (λ p. map C.readings p.clocks.items ≡ map readings_in linked_platforms.items) }
-    ensures outlets { IfOk result (λ p. AreReturned (plan_graph J.plan) leaves (IsSentBy J.link) 0 linked_platforms.items p.outlets.items) }
-    ensures inlets { IfOk result (λ p. AreReturned (plan_graph J.plan) receiving_platform (IsTakenBy J.link) 0 linked_platforms.items p.inlets.items) }
+    ensures platforms { IfOk result (λ p.
+        p.platforms.items ≡ map platform_in linked_platforms.items) }
+    ensures clocks { IfOk result (λ p.
+        map C.readings p.clocks.items ≡ map readings_in linked_platforms.items) }
+    ensures outlets { IfOk result (λ p.
+        AreReturned (plan_graph J.plan) leaves
+        (IsSentBy J.link) 0 linked_platforms.items p.outlets.items) }
+    ensures inlets { IfOk result (λ p.
+        AreReturned (plan_graph J.plan) receiving_platform
+        (IsTakenBy J.link) 0 linked_platforms.items p.inlets.items) }
     ensures count { IfOk result (λ p. (vec_len p.outlets ≡ links) × (vec_len p.inlets ≡ links)) }
-    ensures of_run { IfOk result (λ p. AreLinkedPlatforms J.plan J.rows J.link J.began J.fixed 0 linked_platforms.items) }
+    ensures of_run { IfOk result (λ p.
+        AreLinkedPlatforms J.plan J.rows J.link J.began J.fixed 0 linked_platforms.items) }
 {
     let mut outlets = empty_places(alloc, links)?;
     let mut inlets = empty_places(alloc, links)?;

@@ -83,7 +83,8 @@ fn visit_each<J: Run, C: Clock, R: Wait>(
     linked_platforms: &mut Vec<LinkedPlatform<J, C>>,
 ) -> Result<(), Memory>
     requires most { (1 ≤ most) × (most ≤ 32) }
-    ensures { (numbers linked_platforms.new.items ≡ numbers linked_platforms.old.items) × (vec_len linked_platforms.new ≡ vec_len linked_platforms.old) }
+    ensures { (numbers linked_platforms.new.items ≡ numbers linked_platforms.old.items)
+        × (vec_len linked_platforms.new ≡ vec_len linked_platforms.old) }
 {
     for k in 0..linked_platforms.len() {
         let linked = &mut linked_platforms[k];
@@ -143,7 +144,8 @@ fn finish<J: Run, C: Clock, R: Wait>(
     linked_platforms: &mut Vec<LinkedPlatform<J, C>>,
 ) -> Result<Option<usize>, Memory>
     requires most { (1 ≤ most) × (most ≤ 32) }
-    ensures numbers { (numbers linked_platforms.new.items ≡ numbers linked_platforms.old.items) × (vec_len linked_platforms.new ≡ vec_len linked_platforms.old) }
+    ensures numbers { (numbers linked_platforms.new.items ≡ numbers linked_platforms.old.items)
+        × (vec_len linked_platforms.new ≡ vec_len linked_platforms.old) }
     ensures done { result ≡ Ok None → AllDone linked_platforms.new.items }
     ensures fault { IfOk result (λ r. IfSome r (HasFailed linked_platforms.new.items)) }
     ensures unmarked { OnOk result (AreUnmarked linked_platforms.new.items) }
@@ -179,13 +181,16 @@ fn free_in<
     most: usize,
     gate: &G,
 ) -> Result<Ended<J, C>, Memory>
-    requires name { (blank.name ≡ L.name) × (blank.parts ≡ L.parts) × (blank.parts ≡ vec_len linked_platforms) }
+    requires name { (blank.name ≡ L.name) × (blank.parts ≡ L.parts)
+        × (blank.parts ≡ vec_len linked_platforms) }
     requires count { vec_len linked_platforms ≡ length (plan_graph J.plan).platforms }
     requires order { numbers linked_platforms.items ≡ count_up (vec_len linked_platforms) }
     requires few { length (plan_graph J.plan).platforms ≤ 16 }
     requires boards { (vec_len boards ≡ vec_len linked_platforms) × AreBoards B.table boards.items }
     requires most { (1 ≤ most) × (most ≤ 32) }
-    ensures order { IfOk result (λ e. (vec_len e.linked_platforms ≡ length (plan_graph J.plan).platforms) × (numbers e.linked_platforms.items ≡ count_up (length (plan_graph J.plan).platforms))) }
+    ensures order { IfOk result (λ e.
+        (vec_len e.linked_platforms ≡ length (plan_graph J.plan).platforms)
+        × (numbers e.linked_platforms.items ≡ count_up (length (plan_graph J.plan).platforms))) }
     ensures done { IfOk result (λ e. e.failed ≡ None → AllDone e.linked_platforms.items) }
     ensures fault { IfOk result (λ e. IfSome e.failed (HasFailed e.linked_platforms.items)) }
     ensures unmarked { IfOk result (λ e. AreUnmarked e.linked_platforms.items) }
@@ -239,7 +244,9 @@ pub fn free<J: Run + Send + Sync, C: Clock + Send, G: Gate + Sync, R: Threads + 
     requires order { numbers linked_platforms.items ≡ count_up (vec_len linked_platforms) }
     requires few { length (plan_graph J.plan).platforms ≤ 16 }
     requires most { (1 ≤ most) × (most ≤ 32) }
-    ensures order { IfOk result (λ e. (vec_len e.linked_platforms ≡ length (plan_graph J.plan).platforms) × (numbers e.linked_platforms.items ≡ count_up (length (plan_graph J.plan).platforms))) }
+    ensures order { IfOk result (λ e.
+        (vec_len e.linked_platforms ≡ length (plan_graph J.plan).platforms)
+        × (numbers e.linked_platforms.items ≡ count_up (length (plan_graph J.plan).platforms))) }
     ensures done { IfOk result (λ e. e.failed ≡ None → AllDone e.linked_platforms.items) }
     ensures fault { IfOk result (λ e. IfSome e.failed (HasFailed e.linked_platforms.items)) }
     ensures unmarked { IfOk result (λ e. AreUnmarked e.linked_platforms.items) }

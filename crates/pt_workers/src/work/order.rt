@@ -15,7 +15,8 @@ fn in_places<J: Run, C: Clock>(
     mut linked_platforms: Vec<LinkedPlatform<J, C>>,
 ) -> Result<Vec<Option<LinkedPlatform<J, C>>>, Memory>
     requires count { vec_len linked_platforms ≡ length (plan_graph J.plan).platforms }
-    requires weight { order_weight (numbers linked_platforms.items) + 1 ≡ 2 ^ vec_len linked_platforms }
+    requires weight { order_weight (numbers linked_platforms.items) + 1
+        ≡ 2 ^ vec_len linked_platforms }
     ensures count { IfOk result (λ places. vec_len places ≡ vec_len linked_platforms) }
     ensures filled { IfOk result (λ places. AreFilled (vec_len linked_platforms) places.items) }
 {
@@ -33,7 +34,8 @@ pub(crate) fn in_order<J: Run, C: Clock>(
     linked_platforms: Vec<LinkedPlatform<J, C>>,
 ) -> Result<Vec<LinkedPlatform<J, C>>, Memory>
     requires count { vec_len linked_platforms ≡ length (plan_graph J.plan).platforms }
-    requires weight { order_weight (numbers linked_platforms.items) + 1 ≡ 2 ^ vec_len linked_platforms }
+    requires weight { order_weight (numbers linked_platforms.items) + 1
+        ≡ 2 ^ vec_len linked_platforms }
     ensures count { IfOk result (λ v. vec_len v ≡ vec_len linked_platforms) }
     ensures order { IfOk result (λ v. numbers v.items ≡ count_up (vec_len linked_platforms)) }
 {

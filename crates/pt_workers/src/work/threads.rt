@@ -1,7 +1,6 @@
 //! Threads that do the work of a run.
 
 use pt_blocks::Blocks;
-use pt_types::Task;
 use std::alloc::Global;
 use std::sync::Wait;
 use std::thread;
@@ -9,14 +8,15 @@ use std::thread::Threads;
 
 /// What a run calls between the claim and the firing of each task, while no lock is held.
 pub trait Gate {
-    fn at(&self, platform: u32, task: &Task);
+    /// The task is claim `number` of this platform, counted from 0.
+    fn at(&self, platform: u32, number: u64);
 }
 
 /// A gate that does nothing.
 pub struct Open;
 
 impl Gate for Open {
-    fn at(&self, _platform: u32, _task: &Task) {}
+    fn at(&self, _platform: u32, _number: u64) {}
 }
 
 /// The work of a run, which several threads share.

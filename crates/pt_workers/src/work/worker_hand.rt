@@ -34,7 +34,8 @@ impl<J: Run, B: Boards> Model for WorkerHand<J, B> {
 
     ghost view = { λ h. h.platform };
 
-    ghost invariant = { λ h. IsWorkerHand (plan_graph J.plan) B.table h.platform (arc_value h.board) h.hand };
+    ghost invariant = { λ h. IsWorkerHand (plan_graph J.plan) B.table h.platform
+        (arc_value h.board) h.hand };
 }
 
 impl<J: Run, B: Boards> WorkerHand<J, B> {
@@ -68,7 +69,7 @@ impl<J: Run, B: Boards> WorkerHand<J, B> {
         let Some(ticket) = self.board.claim(&mut self.hand) else {
             return false;
         };
-        gate.at(self.platform, ticket.task());
+        gate.at(self.platform, ticket.task().number);
         let done = firing.fire(blocks, ticket.task());
         self.board.finish(&mut self.hand, ticket, done);
         true

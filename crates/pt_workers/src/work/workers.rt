@@ -7,10 +7,12 @@ ghost use Rattle.pt_workers.specs.Working.Orders.{numbers, count_up, order_weigh
 
 use crate::work::boards::{NewBoard, dismiss, staff};
 use crate::work::firing::Firing;
+use crate::work::signs::{Calm, Quiet, Signs, VisitEnd};
 use crate::work::threads::{Gate, SharedWork};
 use crate::work::worker_hand::WorkerHand;
 use pt_actors::{Done, Tasks};
 use pt_blocks::Blocks;
+use pt_engine::idle_time;
 use pt_io::Clock;
 use pt_pool::station::{Boards, Station};
 use pt_pool::{LinkedPlatform, Run};
@@ -18,10 +20,8 @@ use pt_tags::Memory;
 use pt_turn::Platform;
 use pt_types::Task;
 use std::alloc::Global;
-use std::sync::atomic::{AtomicU64, Ordering};
 use std::sync::ledger::{Blank, Ledger, Share, Total};
 use std::sync::{Mutex, Wait};
-use std::thread::yield_now;
 
 /// What a lock guards: a station, and one part of the run's ledger.
 #[derive(Drop)]
@@ -32,51 +32,24 @@ pub(crate) struct GuardedStation<J: Run, L: Ledger, B: Boards, C: Clock> {
     ghost amount: { share.amount ≡ 2 ^ station.linked.platform.number },
 }
 
-/// How a visit went, for the worker.
-enum Went {
-    On,
-    /// Nothing happened in its turn.
-    Quiet,
-    Finished,
-    Failed,
-}
-
-impl Went {
-    fn is_quiet(&self) -> bool {
-        match self {
-            Went::Quiet => true,
-            Went::On | Went::Finished | Went::Failed => false,
-        }
-    }
-}
-
-/// By these the workers know when to end. No contract depends on them.
-#[derive(Drop)]
-pub(crate) struct Signs {
-    unfinished: AtomicU64,
-    stop: AtomicU64,
-}
-
-impl Signs {
-    fn ended(&self) -> bool {
-        self.stop.load(Ordering::SeqCst) != 0 || self.unfinished.load(Ordering::SeqCst) == 0
-    }
-
-    fn note(&self, went: Went) {
-        match went {
-            Went::On | Went::Quiet => {}
-            Went::Finished => {
-                self.unfinished.fetch_sub(1, Ordering::SeqCst);
-            }
-            Went::Failed => self.stop.store(1, Ordering::SeqCst),
-        }
-    }
-}
-
 /// Whether the platform made a turn and nothing happened in its last one.
 fn was_quiet(platform: &Platform) -> bool {
     let history = platform.history();
     history.turns() != 0 && history.was_quiet()
+}
+
+/// What a worker learns from a visit of this station in which nothing happened.
+fn quiet_at<J: Run, B: Boards, C: Clock>(station: &Station<J, B, C>) -> Quiet {
+    let platform = station.platform();
+    let micros = if station.rises_by_itself() {
+        idle_time(platform)
+    } else {
+        0
+    };
+    Quiet {
+        micros,
+        awaits: platform.open_claims() != 0,
+    }
 }
 
 /// Visits a station once. Tasks for which no slot on the board is free are added to `tasks`.
@@ -86,26 +59,26 @@ fn visit_station<J: Run, B: Boards, C: Clock, R: Wait>(
     station: &mut Station<J, B, C>,
     most: usize,
     tasks: &mut Tasks,
-) -> (u32, Went)
+) -> (u32, VisitEnd)
     requires most { (1 ≤ most) × (most ≤ 32) }
     ensures { station.new.linked.platform.number ≡ station.old.linked.platform.number }
 {
     let platform = station.platform();
     let number = platform.number();
     if platform.fault().is_some() || station.marked() {
-        return (number, Went::Failed);
+        return (number, VisitEnd::Failed);
     }
     let was = platform.finished();
     let Ok(()) = station.visit(rt, alloc, most, tasks) else {
-        return (number, Went::Failed);
+        return (number, VisitEnd::Failed);
     };
     let platform = station.platform();
     if !was && platform.finished() {
-        (number, Went::Finished)
+        (number, VisitEnd::Finished)
     } else if was_quiet(platform) {
-        (number, Went::Quiet)
+        (number, VisitEnd::Quiet(quiet_at(station)))
     } else {
-        (number, Went::On)
+        (number, VisitEnd::On)
     }
 }
 
@@ -117,7 +90,7 @@ impl<J: Run, L: Ledger, B: Boards, C: Clock> GuardedStation<J, L, B, C> {
         alloc: Global,
         most: usize,
         tasks: &mut Tasks,
-    ) -> (u32, Went)
+    ) -> (u32, VisitEnd)
         requires most { (1 ≤ most) × (most ≤ 32) }
     {
         visit_station(rt, alloc, &mut self.station, most, tasks)
@@ -138,7 +111,7 @@ fn visit_at<J: Run, L: Ledger, B: Boards, C: Clock, R: Wait>(
     guarded: &Mutex<GuardedStation<J, L, B, C>>,
     most: usize,
     tasks: &mut Tasks,
-) -> (u32, Went)
+) -> (u32, VisitEnd)
     requires most { (1 ≤ most) × (most ≤ 32) }
 {
     guarded.lock(rt).visit(rt, alloc, most, tasks)
@@ -182,10 +155,7 @@ impl<J: Run, L: Ledger, B: Boards, C: Clock> Shared<J, L, B, C> {
         requires most { (1 ≤ most) × (most ≤ 32) }
         ensures { result.stations ≡ stations }
     {
-        let signs = Signs {
-            unfinished: AtomicU64::new(stations.len() as u64),
-            stop: AtomicU64::new(0),
-        };
+        let signs = Signs::new(stations.len());
         Shared {
             firing,
             stations,
@@ -197,18 +167,19 @@ impl<J: Run, L: Ledger, B: Boards, C: Clock> Shared<J, L, B, C> {
 }
 
 /// Claims and fires the tasks of a board one after another, until no task is found ready. Returns whether there was one.
-fn serve_all<J: Run, B: Boards, G: Gate, R: Wait>(
+fn serve_all<J: Run, L: Ledger, B: Boards, C: Clock, G: Gate, R: Wait>(
     rt: &R,
+    shared: &Shared<J, L, B, C>,
     hand: &mut WorkerHand<J, B>,
-    firing: &Firing<J>,
     blocks: &Blocks,
     gate: &G,
 ) -> bool {
     let mut some = false;
     'tickets: for _ in rt.forever() {
-        if !hand.serve(firing, blocks, gate) {
+        if !hand.serve(&shared.firing, blocks, gate) {
             break;
         }
+        shared.signs.announce();
         some = true;
     }
     some
@@ -225,14 +196,15 @@ fn fire_left<J: Run, L: Ledger, B: Boards, C: Clock, G: Gate, R: Wait>(
     gate: &G,
 ) {
     for task in tasks {
-        gate.at(number, task);
+        gate.at(number, task.number);
         if !keep_at(rt, guarded, shared.firing.fire(blocks, task)) {
-            shared.signs.note(Went::Failed);
+            shared.signs.note(VisitEnd::Failed);
         }
     }
 }
 
-/// Visits a station, and then, with the lock released, fires the tasks that are ready on its board. Returns whether nothing happened.
+/// Visits a station, and then, with the lock released, fires the tasks that are ready on its board. Returns what the
+/// worker learns from it, if nothing happened.
 fn visit_and_fire<J: Run, L: Ledger, B: Boards, C: Clock, G: Gate, R: Wait>(
     rt: &R,
     alloc: Global,
@@ -242,17 +214,19 @@ fn visit_and_fire<J: Run, L: Ledger, B: Boards, C: Clock, G: Gate, R: Wait>(
     blocks: &Blocks,
     tasks: &mut Tasks,
     gate: &G,
-) -> bool {
+) -> Option<Quiet> {
     tasks.clear();
-    let (number, went) = visit_at(rt, alloc, guarded, shared.most, tasks);
-    let quiet = went.is_quiet();
-    shared.signs.note(went);
+    let (number, end) = visit_at(rt, alloc, guarded, shared.most, tasks);
+    shared.signs.note(end);
     fire_left(rt, shared, guarded, blocks, number, tasks.as_slice(), gate);
     let served = match hand {
-        Some(hand) => serve_all(rt, hand, &shared.firing, blocks, gate),
+        Some(hand) => serve_all(rt, shared, hand, blocks, gate),
         None => false,
     };
-    quiet && !served
+    match end {
+        VisitEnd::Quiet(quiet) => (!served).then_some(quiet),
+        VisitEnd::On | VisitEnd::Finished | VisitEnd::Failed => None,
+    }
 }
 
 /// The place after this one; after the last one it is 0.
@@ -263,7 +237,7 @@ fn next_place(at: usize, count: usize) -> usize
     if at + 1 < count { at + 1 } else { 0 }
 }
 
-/// Visits the stations one after another, and fires tasks of each. After a round in which nothing happened it yields to other threads.
+/// Visits the stations one after another, and fires tasks of each. After a round in which nothing happened it rests.
 fn work<J: Run, L: Ledger, B: Boards, C: Clock, G: Gate, R: Wait>(
     rt: &R,
     alloc: Global,
@@ -282,14 +256,14 @@ fn work<J: Run, L: Ledger, B: Boards, C: Clock, G: Gate, R: Wait>(
     let mut hands = hands.lock(rt);
     let own_hands = &mut *hands;
     let mut at = first % stations.len();
-    let mut quiet = 0;
+    let mut calm = Calm::new(&shared.signs);
     let mut tasks = Tasks::new(alloc);
     'rounds: for _ in rt.forever() {
         if shared.signs.ended() {
             break;
         }
         let hand = own_hands.as_mut_slice().get_mut(at);
-        let idle = visit_and_fire(
+        let quiet = visit_and_fire(
             rt,
             alloc,
             shared,
@@ -299,11 +273,13 @@ fn work<J: Run, L: Ledger, B: Boards, C: Clock, G: Gate, R: Wait>(
             &mut tasks,
             gate,
         );
-        quiet = if idle { quiet + 1 } else { 0 };
         at = next_place(at, stations.len());
-        if quiet == stations.len() {
-            quiet = 0;
-            yield_now();
+        calm = match quiet {
+            Some(quiet) => calm.and(quiet),
+            None => Calm::new(&shared.signs),
+        };
+        if calm.is_round(stations.len()) {
+            calm = shared.signs.rest(rt, calm);
         }
     }
 }
@@ -347,7 +323,8 @@ pub(crate) fn lock_all<J: Run, L: Ledger, B: Boards, C: Clock>(
     requires order { numbers linked_platforms.items ≡ count_up (vec_len linked_platforms) }
     requires few { length (plan_graph J.plan).platforms ≤ 16 }
     requires boards { (vec_len boards ≡ vec_len linked_platforms) × AreBoards B.table boards.items }
-    ensures parts { IfOk result (λ r. (vec_len r.0 ≡ vec_len linked_platforms) × (r.1.parts ≡ vec_len linked_platforms)) }
+    ensures parts { IfOk result (λ r. (vec_len r.0 ≡ vec_len linked_platforms)
+        × (r.1.parts ≡ vec_len linked_platforms)) }
     ensures total { IfOk result (λ r. r.1.amount + 1 ≡ 2 ^ vec_len linked_platforms) }
     ensures rest { IfOk result (λ r. (r.2.parts ≡ 0) × (r.2.amount ≡ 0)) }
 {

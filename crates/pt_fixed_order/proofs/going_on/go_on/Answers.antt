@@ -1,7 +1,8 @@
-use Rattle.std.proofs.Common.{◌∙◌, arith, sym}
+use Rattle.std.proofs.Common.{◌∙◌, List, arith, subst, sym}
 use Rattle.std.proofs.lemmas.Bool.{false≢true}
-use Rattle.pt_io.specs.Clocks.{viewed}
+use Rattle.pt_io.specs.Clocks.{ClockView, viewed}
 use Rattle.pt_engine.specs.Asked.{result_lists}
+use Rattle.pt_fixed_order.specs.Between.{BeforeVisit}
 use Rattle.pt_fixed_order.proofs.Steps.{ends_none, ends_one, goes_on, within_all}
 use Rattle.pt_fixed_order.proofs.going_on.go_on.Goals as goal
 
@@ -32,10 +33,11 @@ returns-then-are_finished g c = record {
 
 pub loop-preserved : goal.loop-preserved
 loop-preserved g c = λ plan rows began start.
-    goes_on plan rows c.args.most c.loop.number began (viewed g.C.Clock.readings g.C.Clock.ahead c.visit_at.new.clocks) c.visit_at.new.platforms c.visit_at.new.pipes (result_lists c.visit_at.new.results)
+    subst (λ (cs : List ClockView). BeforeVisit plan rows c.args.most c.after-number.result began cs c.visit_at.new.platforms c.visit_at.new.pipes (result_lists c.visit_at.new.results)) (sym c.rest.ensures)
+    (goes_on plan rows c.args.most c.loop.number began (viewed g.C.Clock.readings g.C.Clock.ahead c.visit_at.new.clocks) c.visit_at.new.platforms c.visit_at.new.pipes (result_lists c.visit_at.new.results)
     (c.in_ok-visit_at.ensures.visited plan rows began (c.loop.invariant plan rows began start))
     c.in_default.ensures (λ done. false≢true (sym c.if-are_finished.false ∙ c.are_finished.ensures.1 done))
-    c.after-number.result c.after-number.ensures
+    c.after-number.result c.after-number.ensures)
 
 pub loop-init : goal.loop-init
 loop-init g c = λ plan rows began start. start

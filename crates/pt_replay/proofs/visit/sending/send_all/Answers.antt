@@ -6,7 +6,8 @@ use Rattle.std.proofs.lemmas.Option.{slice_get-get_or}
 use Rattle.pt_types.specs.declared.graph.Link.{Link}
 use Rattle.pt_semantics.specs.Arrivals.{AirwayView}
 use Rattle.pt_semantics.specs.TrueTime.{delay_on, put_link, transits_on}
-use Rattle.pt_replay.proofs.Visits.Moving.{all_empty, no_oldest, none_put, one_put}
+use Rattle.pt_engine.proofs.Idle.{no_oldest}
+use Rattle.pt_replay.proofs.Visits.Moving.{all_empty, none_put, one_put}
 use Rattle.pt_replay.proofs.Visits.Replacing.{replaced}
 use Rattle.pt_replay.proofs.visit.sending.send_all.Goals as goal
 

@@ -2,4 +2,4 @@ use Rattle.std.proofs.Common.{◌<◌, length}
 use Rattle.pt_workers.proofs.work.workers.work.Given as goal
 
 abbrev pub invariant-rounds : goal.invariant-rounds
-invariant-rounds g l = (l.at < length l.stations) × (l.quiet < length l.stations)
+invariant-rounds g l = l.at < length l.stations

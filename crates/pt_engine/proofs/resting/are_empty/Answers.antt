@@ -2,8 +2,8 @@ use Rattle.std.proofs.Common.{◌≡◌, ◌∙◌, ◌+◌, ◌<◌, ◌≤◌,
 use Rattle.std.specs.Prelude.{slice_index_or}
 use Rattle.std.proofs.lemmas.Bool.{cases_eq, cases_lt}
 use Rattle.std.proofs.lemmas.List.{get_or_default, get_or_past}
-use Rattle.pt_replay.proofs.Visits.Moving.{no_oldest}
-use Rattle.pt_replay.proofs.visit.sending.are_empty.Goals as goal
+use Rattle.pt_engine.proofs.Idle.{no_oldest}
+use Rattle.pt_engine.proofs.resting.are_empty.Goals as goal
 
 pub loop-l-init : goal.loop-l-init
 loop-l-init c = λ k lt. absurd (never k lt)
