@@ -1,4 +1,4 @@
-pub mod Going
+pub mod SoFar
 pub mod Linking
 pub mod Sound
 pub mod Whole

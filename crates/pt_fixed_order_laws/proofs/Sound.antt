@@ -29,7 +29,7 @@ use Rattle.pt_semantics.specs.Rows.{FitRows}
 use Rattle.pt_semantics.specs.Taking.{IsOnTime, Takes, after_message, with_taken}
 use Rattle.pt_semantics.specs.Turn.{IsLast, IsTurn, Turn}
 use Rattle.pt_semantics.specs.Units.{unit_of}
-use Rattle.pt_semantics.specs.Visits.{IsVisit, Made, Together, together_at_start}
+use Rattle.pt_semantics.specs.Visits.{IsVisit, VisitRecord, RunState, run_at_start}
 use Rattle.pt_semantics.specs.Wired.{IsWired}
 use Rattle.pt_semantics.proofs.Floor.{put_none_found}
 use Rattle.pt_laws.proofs.Home.{home_on_time}
@@ -190,11 +190,11 @@ module _ (g : Graph) (i : ℕ) (turn : Turn) (before after : ℕ → List Turn) 
       ∙ sym (append_assoc T t (rest ++ s))
       ∙ ap₂ (λ a b. a ++ b) (sym (one_more_taken own_taken)) (sym last)
 
-pub sound_at_start : (g : Graph) (level : ℕ → ℕ) (rows : ℕ → List Row) → Sound g level rows (together_at_start g rows)
+pub sound_at_start : (g : Graph) (level : ℕ → ℕ) (rows : ℕ → List Row) → Sound g level rows (run_at_start g rows)
 sound_at_start g level rows = record { goes = λ p. refl; single = λ p. tt; linked = λ l link at. refl; own = λ p l f. refl }
 
 module _ (g : Graph) (level : ℕ → ℕ) (rows : ℕ → List Row) (wired : IsWired g) (are : AreLevels g level) (fits : FitRows g rows) where
-  module _ (most r : ℕ) (room : ℕ → ℕ) (x y : Together) (m : Made) (h : Sound g level rows x) (k : IsVisit g level most room r x m y) where
+  module _ (most r : ℕ) (room : ℕ → ℕ) (x y : RunState) (m : VisitRecord) (h : Sound g level rows x) (k : IsVisit g level most room r x m y) where
     pub own_turn : Own g level m.platform (x.at m.platform) m.turn (y.at m.platform)
     own_turn = turn_own g level m.platform (x.at m.platform) (y.at m.platform) m.turn m.late
         (home_on_time g level m.platform rows (x.did m.platform) (x.at m.platform) wired (levels_grow g level are) fits (goes_on_time g level m.platform (x.did m.platform) (opened g m.platform rows) (x.at m.platform) (h.goes m.platform))).busy

@@ -24,7 +24,7 @@ use Rattle.pt_semantics.specs.Rows.{FitRows}
 use Rattle.pt_semantics.specs.Taking.{IsOnTime, Takes, after_message, with_taken}
 use Rattle.pt_semantics.specs.Turn.{IsTurn, Turn}
 use Rattle.pt_semantics.specs.Units.{unit_of}
-use Rattle.pt_semantics.specs.Visits.{IsVisit, Made, Together, together_at_start}
+use Rattle.pt_semantics.specs.Visits.{IsVisit, VisitRecord, RunState, run_at_start}
 use Rattle.pt_semantics.specs.Wired.{IsWired}
 use Rattle.pt_laws.proofs.KeptTurns.{kept_is_legal}
 use Rattle.pt_semantics.proofs.Lookups.{IsIn-append}
@@ -92,13 +92,13 @@ push_time g level i (x ∷ turns) turn s mid new (one, ix, rest) is = (one, ix, 
 
 module _ (g : Graph) (level : ℕ → ℕ) (rows : ℕ → List Row) (wired : IsWired g) (are : AreLevels g level) (fits : FitRows g rows) where
   -- all platforms after a whole run
-  pub record Ended (y : Together) : Type 0 where
+  pub record Ended (y : RunState) : Type 0 where
     pub legal : (p : ℕ) → Legal g level p (opened g p rows) (y.did p) (y.at p)
     pub single : (p : ℕ) → Each IsSingle (y.did p)
     pub linked : (l : ℕ) (link : Link) → slice_get g.links l ≡ Some link → all_sent l (y.did (platform_of g link.from)) ≡ all_taken l (y.did (platform_of g link.to)) ++ y.on_way l
     pub on_time : ((p : ℕ) → p < length g.platforms → IsFinished g p (y.at p)) → (p : ℕ) → p < length g.platforms → LegalOnTime g level p (opened g p rows) (y.did p) (y.at p)
 
-  ended : (most r : ℕ) (room : ℕ → ℕ) (x y : Together) (m : Made) → Sound g level rows x → IsVisit g level most room r x m y → Ended y
+  ended : (most r : ℕ) (room : ℕ → ℕ) (x y : RunState) (m : VisitRecord) → Sound g level rows x → IsVisit g level most room r x m y → Ended y
   ended most r room x y m h k = record {
     legal = legal_after g level rows wired are fits most r room x y m h k;
     single = single_after g level rows wired are fits most r room x y m h k;
@@ -118,10 +118,10 @@ module _ (g : Graph) (level : ℕ → ℕ) (rows : ℕ → List Row) (wired : Is
       in_time new done false is = is
       in_time new done true is = absurd (late_turn g level m.platform (x.at m.platform) new m.turn is done)
 
-  fine_if_going : (y : Together) (m : Made) → (IsOver g m y → ⊥) → m.fault ≡ false
+  fine_if_going : (y : RunState) (m : VisitRecord) → (IsOver g m y → ⊥) → m.fault ≡ false
   fine_if_going y m going = ⊎_elim (λ (e : m.fault ≡ true). absurd (going (inr e))) (λ (e : m.fault ≡ false). e) (cases_Bool m.fault)
 
-  visits_ended : (most i : ℕ) (clocks : ℕ → List ℕ) (x y : Together) (ms : List Made) → Sound g level rows x → Visits g level most i clocks x ms y → Ended y
+  visits_ended : (most i : ℕ) (clocks : ℕ → List ℕ) (x y : RunState) (ms : List VisitRecord) → Sound g level rows x → Visits g level most i clocks x ms y → Ended y
   visits_ended most i clocks x y [] h v = absurd v
   visits_ended most i clocks x y (m ∷ []) h (r, at, given, visit, over, none) = ended most r (λ l. 64) x y m h visit
   visits_ended most i clocks x y (m ∷ n ∷ ms) h (r, later, mid, at, given, visit, going, rest) =
@@ -129,7 +129,7 @@ module _ (g : Graph) (level : ℕ → ℕ) (rows : ℕ → List Row) (wired : Is
 
 pub fixed_order_is_legal : FixedOrderIsLegal
 fixed_order_is_legal g level rows most readings y wired are fits went =
-    let e = visits_ended g level rows wired are fits most 0 _ (together_at_start g rows) y went.made (sound_at_start g level rows) went.visits in
+    let e = visits_ended g level rows wired are fits most 0 _ (run_at_start g rows) y went.made (sound_at_start g level rows) went.visits in
     let keep = λ (i : ℕ). kept_is_legal g level i rows (y.did i) (y.at i) wired are fits (e.single i) in
     let linked : (l : ℕ) (link : Link) → slice_get g.links l ≡ Some link → all_sent l (kept (y.did (platform_of g link.from))) ≡ all_taken l (kept (y.did (platform_of g link.to))) ++ y.on_way l =
     λ l link at. (keep (platform_of g link.from)).2.sent l ∙ e.linked l link at ∙ ap (λ z. z ++ y.on_way l) (sym ((keep (platform_of g link.to)).2.taken l)) in

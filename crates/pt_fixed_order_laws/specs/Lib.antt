@@ -1,4 +1,4 @@
-pub mod Going
+pub mod SoFar
 pub mod Linking
 pub mod Whole
 pub mod Fronts

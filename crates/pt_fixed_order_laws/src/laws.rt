@@ -1,7 +1,7 @@
 //! Theorems on visits in fixed order.
 
 ghost use Rattle.pt_fixed_order_laws.specs.Fronts.{FrontsAreByLink};
-ghost use Rattle.pt_fixed_order_laws.specs.Going.{LinksAreFree, LinksStayFree, VisitsEnd, VisitsGoOn};
+ghost use Rattle.pt_fixed_order_laws.specs.SoFar.{LinksAreFree, LinksStayFree, VisitsEnd, VisitsGoOn};
 ghost use Rattle.pt_fixed_order_laws.specs.Linking.{FinishedIsLinked, MatchedIsLinked};
 ghost use Rattle.pt_fixed_order_laws.specs.Whole.{FixedOrderIsLegal};
 

@@ -1,7 +1,7 @@
 //! Theorems on visits in fixed order: all platforms in the order of the graph, again and again, each at the next reading of
 //! its own clock.
 //!
-//! Read first: `specs/Going.antt`.
+//! Read first: `specs/SoFar.antt`.
 #![tactic(auto)]
 
 mod laws;

@@ -13,7 +13,7 @@ use Rattle.std.proofs.lemmas.Grind.{common_steps}
 use Rattle.pt_types.specs.Ports.{when}
 use Rattle.pt_semantics.specs.Lists.{or_else, Each}
 use Rattle.pt_meaning.specs.declared.place.EventPlace.{EventPlace}
-use Rattle.pt_meaning.specs.declared.line.Sent.{Sent}
+use Rattle.pt_meaning.specs.declared.gap_buffer.Sent.{Sent}
 use Rattle.pt_meaning.specs.Line.{begins_with, in_line, AreAfter, AreBefore, IsSortedLine}
 use Rattle.pt_meaning.specs.Waiting.{place_cmp}
 use Rattle.pt_meaning.specs.Front.{Enters, IsLeastPlace, TakesOne, NoneInFront, is_place_of}

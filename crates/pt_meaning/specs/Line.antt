@@ -7,7 +7,7 @@ use Rattle.pt_tags.specs.declared.tag.Tag.{Tag}
 use Rattle.pt_semantics.specs.Lists.{Each}
 use Rattle.pt_meaning.specs.Front.{is_place_of}
 use Rattle.pt_meaning.specs.declared.place.EventPlace.{EventPlace}
-use Rattle.pt_meaning.specs.declared.line.Sent.{Sent}
+use Rattle.pt_meaning.specs.declared.gap_buffer.Sent.{Sent}
 
 -- the value at a place
 abbrev pub in_line : (EventPlace → EventPlace → Ordering) → List Sent → EventPlace → Option ℤ

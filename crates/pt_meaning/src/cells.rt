@@ -12,8 +12,10 @@ pub(crate) fn push_firing(
     values: &mut Vec<i64>,
     firing: &ActorFiring,
 ) -> Result<(), Memory>
-    ensures places { OnOk result (places.new.items ≡ places.old.items ++ cell_numbers_from 0 (cells_of_firing firing.now)) }
-    ensures values { OnOk result (values.new.items ≡ values.old.items ++ cell_values (cells_of_firing firing.now)) }
+    ensures places { OnOk result (places.new.items
+        ≡ places.old.items ++ cell_numbers_from 0 (cells_of_firing firing.now)) }
+    ensures values { OnOk result (values.new.items
+        ≡ values.old.items ++ cell_values (cells_of_firing firing.now)) }
     ensures ports { (length firing.now.inputs ≡ 8) × (length firing.now.outputs ≡ 8) }
 {
     let inputs = firing.inputs.values();
@@ -39,7 +41,8 @@ fn push_cells(
     cells: &[Option<i64>],
 ) -> Result<(), Memory>
     requires { from + length cells.now ≤ 24 }
-    ensures places { OnOk result (places.new.items ≡ places.old.items ++ cell_numbers_from from cells.now) }
+    ensures places { OnOk result (places.new.items
+        ≡ places.old.items ++ cell_numbers_from from cells.now) }
     ensures values { OnOk result (values.new.items ≡ values.old.items ++ cell_values cells.now) }
 {
     for (number, cell) in cells.iter().enumerate() {
@@ -55,7 +58,8 @@ fn push_cell(
     place: u8,
     cell: Option<i64>,
 ) -> Result<(), Memory>
-    ensures places { OnOk result (places.new.items ≡ places.old.items ++ cell_numbers_from place (cell ∷ [])) }
+    ensures places { OnOk result (places.new.items
+        ≡ places.old.items ++ cell_numbers_from place (cell ∷ [])) }
     ensures values { OnOk result (values.new.items ≡ values.old.items ++ cell_values (cell ∷ [])) }
 {
     let Some(value) = cell else {
@@ -76,7 +80,8 @@ pub(crate) fn cells_between(
 ) -> [Option<i64>; 18]
     requires places { end ≤ length places.now }
     requires values { end ≤ length values.now }
-    ensures { result ≡ with_cells empty_cells (take (end - start) (drop start places.now)) (take (end - start) (drop start values.now)) }
+    ensures { result ≡ with_cells empty_cells (take (end - start) (drop start places.now))
+        (take (end - start) (drop start values.now)) }
 {
     let mut cells = [None; 18];
     for number in start..end {

@@ -36,7 +36,12 @@ impl Model for Current {
 
     ghost Value = { Slate };
 
-    ghost view = { λ c. record { tag = c.tag; order = c.order.items; positions = c.positions.items; inputs = c.inputs } };
+    ghost view = { λ c. record {
+      tag = c.tag;
+      order = c.order.items;
+      positions = c.positions.items;
+      inputs = c.inputs;
+    } };
 
     ghost invariant = { λ c. IsCurrent c.order.items c.positions.items c.inputs };
 }
@@ -60,7 +65,8 @@ impl Current {
     /// The place of the first actor with events, at its input 0.
     #[inline(always)]
     fn leader(&self) -> Option<EventPlace>
-        ensures { MatchOption result ((q : EventPlace) → current_value self.now q ≡ None) (ComesFirst (current_value self.now)) }
+        ensures { MatchOption result ((q : EventPlace) → current_value self.now q ≡ None)
+            (ComesFirst (current_value self.now)) }
     {
         let position = self.inputs.first()?;
         let standing = self.order[position];
@@ -87,7 +93,9 @@ impl Current {
     /// no position.
     #[inline(always)]
     pub fn enter(&mut self, place: EventPlace, value: i64) -> bool
-        ensures { MatchBool result (Enters place value (current_value self.old) (current_value self.new)) ((current_value self.old place ≡ None) × (self.new ≡ self.old)) }
+        ensures { MatchBool result (Enters place value (current_value self.old)
+            (current_value self.new)) ((current_value self.old place ≡ None)
+            × (self.new ≡ self.old)) }
     {
         let position = position_of(self.positions.as_slice(), place.actor, self.order.len());
         if place.tag != self.tag || !stands_at(self.order.as_slice(), position, place) {
@@ -106,7 +114,9 @@ impl Current {
     /// The position of an actor whose events may be here; `None` if this tag doesn't run or the actor has no position.
     #[inline(always)]
     fn position(&self, tag: Tag, actor: u32) -> Option<usize>
-        ensures { MatchOption result ((rank : ℕ → ℕ) (p : ℕ) → current_value self.now (place_of rank actor p tag) ≡ None) (IsPositionOf self.now tag actor) }
+        ensures { MatchOption result ((rank : ℕ → ℕ) (p : ℕ) →
+            current_value self.now (place_of rank actor p tag) ≡ None)
+            (IsPositionOf self.now tag actor) }
     {
         let position = position_of(self.positions.as_slice(), actor, self.order.len());
         if tag == self.tag && is_of_actor(self.order.as_slice(), position, actor) {
@@ -145,7 +155,8 @@ impl Current {
 /// Whether the actor at a position is that of a place.
 #[inline(always)]
 fn stands_at(order: &[Standing], position: usize, place: EventPlace) -> bool
-    ensures { result ≡ (nat_lt position (length order.now) && is_standing_of place (standing_at order.now position)) }
+    ensures { result ≡ (nat_lt position (length order.now) && is_standing_of place
+        (standing_at order.now position)) }
 {
     position < order.len()
         && order[position].rank == place.rank
@@ -155,7 +166,8 @@ fn stands_at(order: &[Standing], position: usize, place: EventPlace) -> bool
 /// Whether the actor at a position is this one.
 #[inline(always)]
 fn is_of_actor(order: &[Standing], position: usize, actor: u32) -> bool
-    ensures { result ≡ (nat_lt position (length order.now) && (standing_at order.now position).actor == actor) }
+    ensures { result ≡ (nat_lt position (length order.now) &&
+        (standing_at order.now position).actor == actor) }
 {
     position < order.len() && order[position].actor == actor
 }

@@ -36,7 +36,8 @@ pub struct EarlyList {
 /// Sorts events into the order in which they fire; those of one moment keep their order.
 fn sort(events: &mut Vec<Early>) -> Result<(), Memory>
     ensures sorted { OnOk result (IsSortedByKey event_moment event_moment_cmp events.new.items) }
-    ensures stable { OnOk result (IsStableByKey event_moment event_moment_cmp events.old.items events.new.items) }
+    ensures stable { OnOk result (IsStableByKey event_moment event_moment_cmp events.old.items
+        events.new.items) }
     ensures permutation { IsPermutation events.old.items events.new.items }
 {
     events.sort_by_key(|event| event.moment)?;
@@ -46,8 +47,11 @@ fn sort(events: &mut Vec<Early>) -> Result<(), Memory>
 impl EarlyList {
     /// Sorts these events. If several are of one moment, the first counts.
     pub fn new(events: Vec<Early>) -> Result<EarlyList, Memory>
-        ensures waits { IfOk result (λ list. (rank : ℕ → ℕ) (actors : ℕ) → AreEarly rank actors events.items → early_waits (left list) ≡ early_waits events.items) }
-        ensures orderly { IfOk result (λ list. (rank : ℕ → ℕ) (actors : ℕ) → AreEarly rank actors events.items → IsFiringOrder rank actors (left list)) }
+        ensures waits { IfOk result (λ list. (rank : ℕ → ℕ) (actors : ℕ) →
+            AreEarly rank actors events.items →
+            early_waits (left list) ≡ early_waits events.items) }
+        ensures orderly { IfOk result (λ list. (rank : ℕ → ℕ) (actors : ℕ) →
+            AreEarly rank actors events.items → IsFiringOrder rank actors (left list)) }
     {
         let mut events = events;
         sort(&mut events)?;
@@ -56,7 +60,8 @@ impl EarlyList {
 
     /// The first event not taken yet.
     fn head(&self) -> Option<Early>
-        ensures { MatchOption result (left self.now ≡ []) (λ event. (rest : List Early) × (left self.now ≡ event ∷ rest)) }
+        ensures { MatchOption result (left self.now ≡ [])
+            (λ event. (rest : List Early) × (left self.now ≡ event ∷ rest)) }
     {
         if self.next < self.events.len() {
             Some(self.events[self.next])
@@ -67,7 +72,9 @@ impl EarlyList {
 
     /// The place of the first event not taken yet.
     pub fn first(&self) -> Option<EventPlace>
-        ensures { MatchOption result (left self.now ≡ []) (λ place. (event : Early) × (rest : List Early) × (left self.now ≡ event ∷ rest) × (place ≡ place_of_early event)) }
+        ensures { MatchOption result (left self.now ≡ [])
+            (λ place. (event : Early) × (rest : List Early) × (left self.now ≡ event ∷ rest)
+            × (place ≡ place_of_early event)) }
     {
         let event = self.head()?;
         Some(EventPlace {
@@ -83,8 +90,10 @@ impl EarlyList {
 
     /// Takes the first event if it is of this tag and actor, and returns its value.
     fn take_first(&mut self, tag: Tag, actor: u32) -> Option<i64>
-        ensures some { IfSome result (λ value. Heads tag actor value (left self.old) (left self.new)) }
-        ensures none { IfNone result (NotAtHead tag actor (left self.old) × (left self.new ≡ left self.old)) }
+        ensures some { IfSome result (λ value.
+            Heads tag actor value (left self.old) (left self.new)) }
+        ensures none { IfNone result (NotAtHead tag actor (left self.old)
+            × (left self.new ≡ left self.old)) }
     {
         let event = self.head()?;
         if !is_at(tag, actor, &event) {
@@ -96,9 +105,14 @@ impl EarlyList {
 
     /// Takes an actor's events of a tag, which must be the first, and returns the value at its input 0.
     pub fn take(&mut self, tag: Tag, actor: u32) -> Option<i64>
-        ensures inputs { (rank : ℕ → ℕ) (actors : ℕ) → IsFiringOrder rank actors (left self.old) → IsFirst rank (early_waits (left self.old)) actor tag → eight (only 0 result) ≡ waiting (early_waits (left self.old)) actor tag }
-        ensures waits { (rank : ℕ → ℕ) (actors : ℕ) → IsFiringOrder rank actors (left self.old) → IsFirst rank (early_waits (left self.old)) actor tag → early_waits (left self.new) ≡ without (early_waits (left self.old)) actor tag }
-        ensures orderly { (rank : ℕ → ℕ) (actors : ℕ) → IsFiringOrder rank actors (left self.old) → IsFiringOrder rank actors (left self.new) }
+        ensures inputs { (rank : ℕ → ℕ) (actors : ℕ) → IsFiringOrder rank actors (left self.old) →
+            IsFirst rank (early_waits (left self.old)) actor tag →
+            eight (only 0 result) ≡ waiting (early_waits (left self.old)) actor tag }
+        ensures waits { (rank : ℕ → ℕ) (actors : ℕ) → IsFiringOrder rank actors (left self.old) →
+            IsFirst rank (early_waits (left self.old)) actor tag →
+            early_waits (left self.new) ≡ without (early_waits (left self.old)) actor tag }
+        ensures orderly { (rank : ℕ → ℕ) (actors : ℕ) → IsFiringOrder rank actors (left self.old) →
+            IsFiringOrder rank actors (left self.new) }
     {
         let mut first = None;
         while let Some(value) = self.take_first(tag, actor) {

@@ -41,10 +41,13 @@ fn emit_along(
     outputs: &Ports,
 ) -> Result<(), Memory>
     requires step { tag.step + edge.weight.step < 2 ^ 64 }
-    ensures waits { OnOk result ((g : Graph) → g.until ≡ until → waits_in (rank_in ranks.now) (late_value late.new)
-        ≡ added (waits_in (rank_in ranks.now) (late_value late.old)) (going g (edge ∷ []) (leaves_actor edge.from) tag outputs.now)) }
+    ensures waits { OnOk result ((g : Graph) → g.until ≡ until →
+        waits_in (rank_in ranks.now) (late_value late.new)
+        ≡ added (waits_in (rank_in ranks.now) (late_value late.old))
+        (going g (edge ∷ []) (leaves_actor edge.from) tag outputs.now)) }
     ensures sound { OnOk result ((actors steps : ℕ) → IsUsable actors edge → tag.step + 1 ≤ steps
-        → EventsArePlaced (rank_in ranks.now) actors steps (late_value late.old) → EventsArePlaced (rank_in ranks.now) actors steps (late_value late.new)) }
+        → EventsArePlaced (rank_in ranks.now) actors steps (late_value late.old) →
+        EventsArePlaced (rank_in ranks.now) actors steps (late_value late.new)) }
 {
     let Some(value) = outputs.get(edge.output) else {
         return Ok(());
@@ -76,10 +79,14 @@ pub fn emit(
 ) -> Result<(), Memory>
     requires step { tag.step + 1 < 2 ^ 64 }
     requires edges { Each AddsOneStep edges.now }
-    ensures waits { OnOk result ((g : Graph) (actor : ℕ) → g.until ≡ until → Each (LeavesActor actor) edges.now → waits_in (rank_in ranks.now) (late_value late.new)
-        ≡ added (waits_in (rank_in ranks.now) (late_value late.old)) (going g edges.now (leaves_actor actor) tag outputs.now)) }
-    ensures sound { OnOk result ((actors steps : ℕ) → Each (IsUsable actors) edges.now → tag.step + 1 ≤ steps
-        → EventsArePlaced (rank_in ranks.now) actors steps (late_value late.old) → EventsArePlaced (rank_in ranks.now) actors steps (late_value late.new)) }
+    ensures waits { OnOk result ((g : Graph) (actor : ℕ) → g.until ≡ until →
+        Each (LeavesActor actor) edges.now → waits_in (rank_in ranks.now) (late_value late.new)
+        ≡ added (waits_in (rank_in ranks.now) (late_value late.old))
+        (going g edges.now (leaves_actor actor) tag outputs.now)) }
+    ensures sound { OnOk result ((actors steps : ℕ) → Each (IsUsable actors) edges.now →
+        tag.step + 1 ≤ steps
+        → EventsArePlaced (rank_in ranks.now) actors steps (late_value late.old) →
+        EventsArePlaced (rank_in ranks.now) actors steps (late_value late.new)) }
 {
     for edge in edges {
         emit_along(late, ranks, until, *edge, tag, outputs)?;

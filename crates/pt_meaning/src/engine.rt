@@ -61,9 +61,12 @@ pub fn begin(
 ) -> Result<GlobalList, Memory>
     requires actors { length graph.now.actors < 2 ^ 32 }
     requires sensors { Each (IsOfActors (length graph.now.actors)) sensors.now }
-    ensures world { IfOk result (λ list. world_in ranks.now list.waiting list.states.items ≡ at_start graph.now (rows_of_run graph.now sensors.now)) }
+    ensures world { IfOk result (λ list.
+        world_in ranks.now list.waiting list.states.items
+        ≡ at_start graph.now (rows_of_run graph.now sensors.now)) }
     ensures states { IfOk result (λ list. length list.states.items ≡ length graph.now.actors) }
-    ensures sound { IfOk result (λ list. AreSound (rank_in ranks.now) (length graph.now.actors) 0 list.waiting) }
+    ensures sound { IfOk result (λ list.
+        AreSound (rank_in ranks.now) (length graph.now.actors) 0 list.waiting) }
 {
     let early = opening(alloc, graph, ranks, sensors)?;
     let late = Late::new(alloc, ranks)?;
@@ -92,7 +95,8 @@ fn fire(graph: &Graph, states: &[i64], firing: &mut ActorFiring)
     requires runnable { IsRunnable graph.now }
     requires actor { firing.old.actor < length graph.now.actors }
     requires states { length states.now ≡ length graph.now.actors }
-    ensures { firing.new ≡ actor_firing graph.now (states_from states.now) firing.old.actor firing.old.tag firing.old.inputs }
+    ensures { firing.new ≡ actor_firing graph.now
+        (states_from states.now) firing.old.actor firing.old.tag firing.old.inputs }
 {
     let before = states[firing.actor as usize];
     let kind = &graph.actors.as_slice()[firing.actor as usize].kind;
@@ -103,7 +107,8 @@ fn fire(graph: &Graph, states: &[i64], firing: &mut ActorFiring)
 /// Sets the state of an actor.
 fn set_state(states: &mut Vec<i64>, actor: u32, value: i64)
     requires { actor < length states.old.items }
-    ensures after { states_from states.new.items ≡ put_state (states_from states.old.items) actor value }
+    ensures after { states_from states.new.items
+        ≡ put_state (states_from states.old.items) actor value }
     ensures len { length states.new.items ≡ length states.old.items }
 {
     states[actor as usize] = value;
@@ -125,13 +130,21 @@ pub fn fire_next(
     requires actor { actor < length graph.now.actors }
     requires states { length list.old.states.items ≡ length graph.now.actors }
     requires step { tag.step + 1 < 2 ^ 64 }
-    requires sound { (steps : ℕ) × AreSound (rank_in ranks.now) (length graph.now.actors) steps list.old.waiting }
-    requires first { IsFirst (rank_in ranks.now) (all_waits (rank_in ranks.now) list.old.waiting) actor tag }
-    requires present { any_present (waiting (all_waits (rank_in ranks.now) list.old.waiting) actor tag) ≡ true }
-    ensures fires { OnOk result (Fires graph.now (rank_in ranks.now) (world_in ranks.now list.old.waiting list.old.states.items) firing.new) }
-    ensures after { OnOk result (world_in ranks.now list.new.waiting list.new.states.items ≡ after_firing graph.now (world_in ranks.now list.old.waiting list.old.states.items) firing.new) }
+    requires sound { (steps : ℕ) × AreSound (rank_in ranks.now)
+        (length graph.now.actors) steps list.old.waiting }
+    requires first { IsFirst (rank_in ranks.now)
+        (all_waits (rank_in ranks.now) list.old.waiting) actor tag }
+    requires present { any_present (waiting
+        (all_waits (rank_in ranks.now) list.old.waiting) actor tag) ≡ true }
+    ensures fires { OnOk result (Fires graph.now (rank_in ranks.now)
+        (world_in ranks.now list.old.waiting list.old.states.items) firing.new) }
+    ensures after { OnOk result (world_in ranks.now list.new.waiting list.new.states.items
+        ≡ after_firing graph.now (world_in ranks.now list.old.waiting list.old.states.items)
+        firing.new) }
     ensures states { OnOk result (length list.new.states.items ≡ length graph.now.actors) }
-    ensures sound { OnOk result ((steps : ℕ) → tag.step + 1 ≤ steps → AreSound (rank_in ranks.now) (length graph.now.actors) steps list.old.waiting → AreSound (rank_in ranks.now) (length graph.now.actors) steps list.new.waiting) }
+    ensures sound { OnOk result ((steps : ℕ) → tag.step + 1 ≤ steps →
+        AreSound (rank_in ranks.now) (length graph.now.actors) steps list.old.waiting →
+        AreSound (rank_in ranks.now) (length graph.now.actors) steps list.new.waiting) }
 {
     firing.actor = actor;
     firing.tag = tag;

@@ -18,9 +18,11 @@ pub trait TakeFirst {
 
     /// Takes the first event if it is of this tag and actor, and returns its input and value.
     fn take_first(&mut self, tag: Tag, actor: u32) -> Option<(u32, i64)>
-        ensures some { IfSome result (λ taken. TakesOne tag actor taken.0 taken.1 (held self.old) (held self.new)) }
+        ensures some { IfSome result (λ taken.
+            TakesOne tag actor taken.0 taken.1 (held self.old) (held self.new)) }
         ensures fewer { IfSome result (λ _. count self.new < count self.old) }
-        ensures none { IfNone result (NoneInFront tag actor (held self.old) × (held self.new ≡ held self.old)) };
+        ensures none { IfNone result (NoneInFront tag actor (held self.old)
+            × (held self.new ≡ held self.old)) };
 }
 
 /// Takes an actor's events of a tag, which must be the first, and writes their values at its inputs.
@@ -38,7 +40,8 @@ pub fn take_all<F: TakeFirst>(front: &mut F, tag: Tag, actor: u32, inputs: &mut 
 
 /// Writes a value at a port; does nothing if there is no such port.
 fn put_at(values: &mut Ports, port: u32, value: i64)
-    ensures { values.new ≡ (if nat_lt port 8 then slice_set values.old port (Some value) else values.old) }
+    ensures { values.new ≡ (if nat_lt port 8 then slice_set values.old port
+        (Some value) else values.old) }
 {
     if port < 8 {
         values.put(port, value);

@@ -1,11 +1,11 @@
 //! The gap in a line of events, into which new ones go.
 
 ghost use Rattle.std.specs.Prelude.{◌≡◌, ◌++◌, ◌∷◌, [], List, IfOk, IsTrue, IsSome, MatchOption};
-ghost use Rattle.pt_meaning.specs.declared.line.Sent.{Sent};
+ghost use Rattle.pt_meaning.specs.declared.gap_buffer.Sent.{Sent};
 ghost use Rattle.pt_meaning.specs.Line.{begins_with, in_line, AreAfter, AreBefore, IsSortedLine};
 ghost use Rattle.pt_meaning.specs.Waiting.{place_cmp};
 
-use crate::line::Sent;
+use crate::gap_buffer::Sent;
 use crate::place::{EventPlace, is_of};
 use pt_tags::{Memory, Tag};
 use std::collections::VecDeque;
@@ -16,7 +16,9 @@ const MOVED: usize = 256;
 /// The place of the first of these events.
 #[inline(always)]
 pub(crate) fn place_at_front(events: &VecDeque<Sent>) -> Option<EventPlace>
-    ensures { MatchOption result (events.now.items ≡ []) (λ place. (sent : Sent) × (rest : List Sent) × (events.now.items ≡ sent ∷ rest) × (place ≡ sent.place)) }
+    ensures { MatchOption result (events.now.items ≡ [])
+        (λ place. (sent : Sent) × (rest : List Sent) × (events.now.items ≡ sent ∷ rest)
+        × (place ≡ sent.place)) }
 {
     match events.front() {
         Some(sent) => Some(sent.place),
@@ -38,7 +40,8 @@ pub(crate) fn begins_with(events: &VecDeque<Sent>, tag: Tag, actor: u32) -> bool
 /// Whether all of these events, which are in order, are before a place.
 #[inline(always)]
 pub(crate) fn ends_before(events: &VecDeque<Sent>, place: EventPlace) -> bool
-    ensures { IsTrue result → IsSortedLine place_cmp events.now.items → AreBefore place_cmp place events.now.items }
+    ensures { IsTrue result → IsSortedLine place_cmp events.now.items →
+        AreBefore place_cmp place events.now.items }
 {
     match events.back() {
         Some(last) => last.place < place,
@@ -48,7 +51,8 @@ pub(crate) fn ends_before(events: &VecDeque<Sent>, place: EventPlace) -> bool
 
 /// Whether all of these events, which are in order, are after a place.
 pub(crate) fn begins_after(events: &VecDeque<Sent>, place: EventPlace) -> bool
-    ensures { IsTrue result → IsSortedLine place_cmp events.now.items → AreAfter place_cmp place events.now.items }
+    ensures { IsTrue result → IsSortedLine place_cmp events.now.items →
+        AreAfter place_cmp place events.now.items }
 {
     match events.front() {
         Some(first) => place < first.place,
@@ -69,7 +73,8 @@ pub(crate) fn ends_at(events: &VecDeque<Sent>, place: EventPlace) -> bool
 /// Whether a place is between the events of two parts of a line.
 #[inline(always)]
 fn fits(before: &VecDeque<Sent>, after: &VecDeque<Sent>, place: EventPlace) -> bool
-    ensures { IsTrue result → IsSortedLine place_cmp (before.now.items ++ after.now.items) → AreBefore place_cmp place before.now.items × AreAfter place_cmp place after.now.items }
+    ensures { IsTrue result → IsSortedLine place_cmp (before.now.items ++ after.now.items) →
+        AreBefore place_cmp place before.now.items × AreAfter place_cmp place after.now.items }
 {
     ends_before(before, place) && begins_after(after, place)
 }
@@ -82,7 +87,9 @@ pub(crate) fn reach(
     place: EventPlace,
 ) -> Result<bool, Memory>
     ensures same { before.new.items ++ after.new.items ≡ before.old.items ++ after.old.items }
-    ensures there { IfOk result (λ there. IsTrue there → IsSortedLine place_cmp (before.new.items ++ after.new.items) → AreBefore place_cmp place before.new.items × AreAfter place_cmp place after.new.items) }
+    ensures there { IfOk result (λ there. IsTrue there →
+        IsSortedLine place_cmp (before.new.items ++ after.new.items) →
+        AreBefore place_cmp place before.new.items × AreAfter place_cmp place after.new.items) }
 {
     if fits(before, after, place) {
         return Ok(true);

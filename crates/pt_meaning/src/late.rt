@@ -26,8 +26,10 @@ pub struct Late {
 impl Late {
     /// No events, of actors with these ranks.
     pub fn new(alloc: Global, ranks: &[u32]) -> Result<Late, Memory>
-        ensures empty { IfOk result (λ late. (rank : ℕ → ℕ) → waits_in rank (late_value late) ≡ (λ a p t. None)) }
-        ensures sound { IfOk result (λ late. (rank : ℕ → ℕ) (actors steps : ℕ) → EventsArePlaced rank actors steps (late_value late)) }
+        ensures empty { IfOk result (λ late. (rank : ℕ → ℕ) →
+            waits_in rank (late_value late) ≡ (λ a p t. None)) }
+        ensures sound { IfOk result (λ late. (rank : ℕ → ℕ) (actors steps : ℕ) →
+            EventsArePlaced rank actors steps (late_value late)) }
     {
         let current = Current::new(alloc, ranks)?;
         let pending = Pending::new(alloc);
@@ -53,8 +55,13 @@ impl Late {
 
     /// Adds an event, unless one waits at its place.
     pub fn add(&mut self, place: EventPlace, value: i64) -> Result<(), Memory>
-        ensures waits { OnOk result ((rank : ℕ → ℕ) → place.rank ≡ rank place.actor → waits_in rank (late_value self.new) ≡ added (waits_in rank (late_value self.old)) (value_at place value)) }
-        ensures sound { OnOk result ((rank : ℕ → ℕ) (actors steps : ℕ) → IsPlaceIn rank actors steps place → EventsArePlaced rank actors steps (late_value self.old) → EventsArePlaced rank actors steps (late_value self.new)) }
+        ensures waits { OnOk result ((rank : ℕ → ℕ) → place.rank ≡ rank place.actor →
+            waits_in rank (late_value self.new)
+            ≡ added (waits_in rank (late_value self.old)) (value_at place value)) }
+        ensures sound { OnOk result ((rank : ℕ → ℕ) (actors steps : ℕ) →
+            IsPlaceIn rank actors steps place →
+            EventsArePlaced rank actors steps (late_value self.old) →
+            EventsArePlaced rank actors steps (late_value self.new)) }
     {
         self.put(place, value)
     }

@@ -30,7 +30,9 @@ impl Later {
 
     /// The place of the first event.
     pub fn first(&self) -> Option<EventPlace>
-        ensures { MatchOption result ((q : EventPlace) → tree.get place_cmp self.now.events q ≡ None) (λ place. IsLeastPlace (tree.get place_cmp self.now.events) place) }
+        ensures { MatchOption result ((q : EventPlace) →
+            tree.get place_cmp self.now.events q ≡ None)
+            (λ place. IsLeastPlace (tree.get place_cmp self.now.events) place) }
     {
         match self.events.first_key_value() {
             Some((place, _)) => Some(*place),
@@ -50,7 +52,8 @@ impl Later {
 
     /// Adds an event, unless one waits at its place.
     pub fn enter(&mut self, place: EventPlace, value: i64) -> Result<(), Memory>
-        ensures { OnOk result (Enters place value (tree.get place_cmp self.old.events) (tree.get place_cmp self.new.events)) }
+        ensures { OnOk result (Enters place value (tree.get place_cmp self.old.events)
+            (tree.get place_cmp self.new.events)) }
     {
         match self.events.insert(place, value)? {
             None => Ok(()),
@@ -60,7 +63,8 @@ impl Later {
 
     /// Sets the value at a place.
     fn put_back(&mut self, place: EventPlace, value: i64) -> Result<(), Memory>
-        ensures { OnOk result (Replaces place value (tree.get place_cmp self.old.events) (tree.get place_cmp self.new.events)) }
+        ensures { OnOk result (Replaces place value (tree.get place_cmp self.old.events)
+            (tree.get place_cmp self.new.events)) }
     {
         self.events.insert(place, value)?;
         Ok(())

@@ -71,8 +71,10 @@ pub fn reference<R: Receiver>(
     requires lawful { IsLawful graph.now }
     requires sensors { Each (IsOfActors (length graph.now.actors)) sensors.now }
     requires nothing { R.took receiver.old receiver.old [] }
-    ensures meaning { OnOk result (Handed graph.now (rank_in ranks.now) (rows_of_run graph.now sensors.now) most (R.took receiver.old receiver.new)) }
-    ensures long { IsErrOf result MeaningFault.Long → IsLonger graph.now (rank_in ranks.now) (rows_of_run graph.now sensors.now) most }
+    ensures meaning { OnOk result (Handed graph.now (rank_in ranks.now)
+        (rows_of_run graph.now sensors.now) most (R.took receiver.old receiver.new)) }
+    ensures long { IsErrOf result MeaningFault.Long →
+        IsLonger graph.now (rank_in ranks.now) (rows_of_run graph.now sensors.now) most }
 {
     let edges = all_edges(alloc, graph)?;
     let outgoing = outgoing(alloc, graph, edges.as_slice())?;
@@ -102,8 +104,10 @@ fn run<R: Receiver>(
     requires wiring { IsWiring graph.now outgoing.now }
     requires len { length outgoing.now ≡ length graph.now.actors }
     requires nothing { R.took receiver.old receiver.old [] }
-    ensures meaning { OnOk result (Handed graph.now (rank_in ranks.now) (rows_of_run graph.now sensors.now) most (R.took receiver.old receiver.new)) }
-    ensures long { IsErrOf result MeaningFault.Long → IsLonger graph.now (rank_in ranks.now) (rows_of_run graph.now sensors.now) most }
+    ensures meaning { OnOk result (Handed graph.now (rank_in ranks.now)
+        (rows_of_run graph.now sensors.now) most (R.took receiver.old receiver.new)) }
+    ensures long { IsErrOf result MeaningFault.Long →
+        IsLonger graph.now (rank_in ranks.now) (rows_of_run graph.now sensors.now) most }
 {
     let mut list = begin(alloc, graph, ranks, sensors)?;
     let mut firing = no_firing();

@@ -19,7 +19,8 @@ pub(crate) fn moment_of(tags: &mut Vec<Tag>, tag: Tag) -> Result<u32, Memory>
 
 /// Whether the last of the tags is this one.
 fn is_last(tags: &[Tag], tag: Tag) -> bool
-    ensures { IsTrue result → (0 < length tags.now) × (slice_index_or tags.now (length tags.now - 1) no_tag ≡ tag) }
+    ensures { IsTrue result → (0 < length tags.now)
+        × (slice_index_or tags.now (length tags.now - 1) no_tag ≡ tag) }
 {
     match tags.last() {
         Some(last) => *last == tag,

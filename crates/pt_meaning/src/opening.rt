@@ -24,7 +24,8 @@ fn begin(
     time: Time,
     value: i64,
 ) -> Result<(), Memory>
-    ensures waits { OnOk result (early_waits events.new.items ≡ added (early_waits events.old.items) (start_event actor time value)) }
+    ensures waits { OnOk result (early_waits events.new.items
+        ≡ added (early_waits events.old.items) (start_event actor time value)) }
     ensures sound { OnOk result (StayEarly ranks.now actor events.old.items events.new.items) }
 {
     let moment = EarlyMoment {
@@ -44,7 +45,9 @@ fn start(
     actor: u32,
     kind: &Kind,
 ) -> Result<(), Memory>
-    ensures waits { OnOk result ((g : Graph) → g.until ≡ until → early_waits events.new.items ≡ added (early_waits events.old.items) (start_one g actor kind.now)) }
+    ensures waits { OnOk result ((g : Graph) → g.until ≡ until →
+        early_waits events.new.items ≡ added (early_waits events.old.items)
+        (start_one g actor kind.now)) }
     ensures sound { OnOk result (StayEarly ranks.now actor events.old.items events.new.items) }
 {
     match kind {
@@ -62,8 +65,11 @@ fn start(
 /// Adds the starting events of all actors.
 fn starts(events: &mut Vec<Early>, ranks: &[u32], graph: &Graph) -> Result<(), Memory>
     requires { length graph.now.actors < 2 ^ 32 }
-    ensures waits { OnOk result (early_waits events.old.items ≡ (λ a p t. None) → early_waits events.new.items ≡ starts_below graph.now (length graph.now.actors)) }
-    ensures sound { OnOk result (AreEarly (rank_in ranks.now) (length graph.now.actors) events.old.items → AreEarly (rank_in ranks.now) (length graph.now.actors) events.new.items) }
+    ensures waits { OnOk result (early_waits events.old.items ≡ (λ a p t. None) →
+        early_waits events.new.items ≡ starts_below graph.now (length graph.now.actors)) }
+    ensures sound { OnOk result (AreEarly (rank_in ranks.now)
+        (length graph.now.actors) events.old.items →
+        AreEarly (rank_in ranks.now) (length graph.now.actors) events.new.items) }
 {
     let until = graph.until;
     for (number, actor) in graph.actors.as_slice().iter().enumerate() {
@@ -80,7 +86,8 @@ fn enter(
     actor: u32,
     row: &Row,
 ) -> Result<(), Memory>
-    ensures waits { OnOk result (early_waits events.new.items ≡ added (early_waits events.old.items) (rows_of_actor until actor (row.now ∷ []))) }
+    ensures waits { OnOk result (early_waits events.new.items
+        ≡ added (early_waits events.old.items) (rows_of_actor until actor (row.now ∷ []))) }
     ensures sound { OnOk result (StayEarly ranks.now actor events.old.items events.new.items) }
 {
     if row.time <= until {
@@ -98,7 +105,8 @@ fn enter_rows(
     actor: u32,
     rows: &[Row],
 ) -> Result<(), Memory>
-    ensures waits { OnOk result (early_waits events.new.items ≡ added (early_waits events.old.items) (rows_of_actor until actor rows.now)) }
+    ensures waits { OnOk result (early_waits events.new.items
+        ≡ added (early_waits events.old.items) (rows_of_actor until actor rows.now)) }
     ensures sound { OnOk result (StayEarly ranks.now actor events.old.items events.new.items) }
 {
     for row in rows {
@@ -114,8 +122,11 @@ fn enter_sensors(
     until: Time,
     sensors: &[SensorRows],
 ) -> Result<(), Memory>
-    ensures waits { OnOk result (early_waits events.new.items ≡ added (early_waits events.old.items) (rows_from_sensors until sensors.now)) }
-    ensures sound { OnOk result ((actors : ℕ) → Each (IsOfActors actors) sensors.now → AreEarly (rank_in ranks.now) actors events.old.items → AreEarly (rank_in ranks.now) actors events.new.items) }
+    ensures waits { OnOk result (early_waits events.new.items
+        ≡ added (early_waits events.old.items) (rows_from_sensors until sensors.now)) }
+    ensures sound { OnOk result ((actors : ℕ) → Each (IsOfActors actors) sensors.now →
+        AreEarly (rank_in ranks.now) actors events.old.items →
+        AreEarly (rank_in ranks.now) actors events.new.items) }
 {
     for sensor in sensors {
         enter_rows(events, ranks, until, sensor.actor, sensor.rows.as_slice())?;
@@ -132,8 +143,10 @@ pub fn opening(
 ) -> Result<EarlyList, Memory>
     requires actors { length graph.now.actors < 2 ^ 32 }
     requires sensors { Each (IsOfActors (length graph.now.actors)) sensors.now }
-    ensures waits { IfOk result (λ list. early_waits (left list) ≡ opening graph.now (rows_of_run graph.now sensors.now)) }
-    ensures sound { IfOk result (λ list. IsFiringOrder (rank_in ranks.now) (length graph.now.actors) (left list)) }
+    ensures waits { IfOk result (λ list.
+        early_waits (left list) ≡ opening graph.now (rows_of_run graph.now sensors.now)) }
+    ensures sound { IfOk result (λ list.
+        IsFiringOrder (rank_in ranks.now) (length graph.now.actors) (left list)) }
 {
     let mut events = Vec::new(alloc);
     starts(&mut events, ranks, graph)?;

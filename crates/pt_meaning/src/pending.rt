@@ -8,8 +8,8 @@ ghost use Rattle.pt_meaning.specs.Front.{Enters};
 ghost use Rattle.pt_meaning.specs.Held.{pending_value};
 
 use crate::front::take_all;
+use crate::gap_buffer::GapBuffer;
 use crate::later::Later;
-use crate::line::GapBuffer;
 use crate::place::{EventPlace, sooner};
 use pt_tags::{Memory, Tag};
 use pt_types::Ports;
@@ -27,7 +27,8 @@ impl Pending {
     /// No events.
     pub fn new(alloc: Global) -> Pending
         ensures empty { (rank : ℕ → ℕ) → waits_in rank (pending_value result) ≡ (λ a p t. None) }
-        ensures sound { (rank : ℕ → ℕ) (actors steps : ℕ) → EventsArePlaced rank actors steps (pending_value result) }
+        ensures sound { (rank : ℕ → ℕ) (actors steps : ℕ) →
+            EventsArePlaced rank actors steps (pending_value result) }
     {
         Pending {
             line: GapBuffer::new(alloc),
@@ -55,7 +56,8 @@ impl Pending {
     /// Puts an event where it belongs, unless one waits at its place. Not inlined, since most events are of the tag that runs.
     #[inline(never)]
     pub fn enter(&mut self, place: EventPlace, value: i64) -> Result<(), Memory>
-        ensures { OnOk result (Enters place value (pending_value self.old) (pending_value self.new)) }
+        ensures { OnOk result (Enters place value (pending_value self.old)
+            (pending_value self.new)) }
     {
         if self.later.is_after(place) && self.line.enter(place, value)? {
             return Ok(());

@@ -55,7 +55,8 @@ impl ReadyInputs {
     /// The first position that has a value.
     #[inline(always)]
     pub fn first(&self) -> Option<usize>
-        ensures { MatchOption result ((n : ℕ) → any_present (ports_at self.now n) ≡ false) (IsFirstReady self.now) }
+        ensures { MatchOption result ((n : ℕ) → any_present (ports_at self.now n) ≡ false)
+            (IsFirstReady self.now) }
     {
         first_set(self.ready.as_slice())
     }
@@ -75,7 +76,8 @@ impl ReadyInputs {
     pub fn put(&mut self, position: usize, port: u32, value: i64)
         requires position { position < length self.old }
         requires port { port < 8 }
-        ensures { self.new ≡ slice_set self.old position (slice_set (ports_at self.old position) port (Some value)) }
+        ensures { self.new ≡ slice_set self.old position
+            (slice_set (ports_at self.old position) port (Some value)) }
     {
         self.inputs[position].put(port, value);
         set_bit(&mut self.ready, position);

@@ -13,5 +13,6 @@ pub trait Receiver {
 
     /// Takes the next firing. Fails if memory runs out.
     fn take(&mut self, firing: &ActorFiring) -> Result<(), Memory>
-        ensures { (start : Self) (xs : List ActorFiring) → took start self.old xs → OnOk result (took start self.new (xs ++ firing.now ∷ [])) };
+        ensures { (start : Self) (xs : List ActorFiring) → took start self.old xs →
+            OnOk result (took start self.new (xs ++ firing.now ∷ [])) };
 }

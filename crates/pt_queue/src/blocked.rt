@@ -101,7 +101,8 @@ pub fn holder_in_word(
 
 /// A word of `before`; all bits are set in a word past its end, since of the units there nothing is known.
 pub fn word_before(before: &[u64], index: usize) -> u64
-    ensures { (x : Unit) → MayHave before.now x → x.group < 8 → unit_place x / 64 ≡ index → bit_at result (unit_place x % 64) ≡ 1 }
+    ensures { (x : Unit) → MayHave before.now x → x.group < 8 → unit_place x / 64 ≡ index →
+        bit_at result (unit_place x % 64) ≡ 1 }
 {
     match before.get(index) {
         None => u64::MAX,
@@ -117,7 +118,8 @@ fn shared_end(marks: &[u64], before: &[u64], from: usize, end: usize) -> usize
     requires order { from ≤ end }
     requires marks { end ≤ length marks.now }
     ensures few { result ≤ end }
-    ensures none { (n : ℕ) → from ≤ n → result ≤ n → n < end → (n < length before.now) × (bit_and (slice_index_or marks.now n 0) (slice_index_or before.now n 0) ≡ 0) }
+    ensures none { (n : ℕ) → from ≤ n → result ≤ n → n < end → (n < length before.now)
+        × (bit_and (slice_index_or marks.now n 0) (slice_index_or before.now n 0) ≡ 0) }
 {
     if end > before.len() {
         return end;
@@ -137,7 +139,8 @@ fn shared_end(marks: &[u64], before: &[u64], from: usize, end: usize) -> usize
 fn shared_bits(marks: &[u64], before: &[u64], from: usize, end: usize) -> u64
     requires marks { end ≤ length marks.now }
     requires before { end ≤ length before.now }
-    ensures { (n i : ℕ) → from ≤ n → n < end → bit_at result i ≡ 0 → bit_at (bit_and (slice_index_or marks.now n 0) (slice_index_or before.now n 0)) i ≡ 0 }
+    ensures { (n i : ℕ) → from ≤ n → n < end → bit_at result i ≡ 0 →
+        bit_at (bit_and (slice_index_or marks.now n 0) (slice_index_or before.now n 0)) i ≡ 0 }
 {
     let mut shared = 0u64;
     for index in from..end {
@@ -153,7 +156,10 @@ fn shared_bits(marks: &[u64], before: &[u64], from: usize, end: usize) -> u64
 #[inline(never)]
 fn shares_none(marks: &[u64], before: &[u64], from: usize, end: usize, unit: Unit) -> bool
     ensures group { result ≡ true → unit.group < 8 }
-    ensures none { result ≡ true → (n : ℕ) → from ≤ n / 64 → n / 64 < end → n ≢ unit_place unit → (n / 64 < length before.now) × (bit_at (bit_and (slice_index_or marks.now (n / 64) 0) (slice_index_or before.now (n / 64) 0)) (n % 64) ≡ 0) }
+    ensures none { result ≡ true → (n : ℕ) → from ≤ n / 64 → n / 64 < end → n ≢ unit_place unit →
+        (n / 64 < length before.now) × (bit_at
+        (bit_and (slice_index_or marks.now (n / 64) 0) (slice_index_or before.now (n / 64) 0))
+        (n % 64) ≡ 0) }
 {
     let place = place_of(unit);
     let own = place / 64;
@@ -345,7 +351,8 @@ pub fn is_blocked(
     least: &Least,
 ) -> bool
     ensures held { result ≡ true → SomeHoldsUp table.now (least_of least.now) unit tag tags.now }
-    ensures free { result ≡ false → (x : Unit) → unit_holds_up table.now (least_of least.now) unit tag tags.now x ≡ false }
+    ensures free { result ≡ false → (x : Unit) →
+        unit_holds_up table.now (least_of least.now) unit tag tags.now x ≡ false }
 {
     if are_few_words(tags) {
         return is_held_in_few(table, tags, unit, tag, least);

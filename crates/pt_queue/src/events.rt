@@ -67,7 +67,8 @@ fn is_one_for(actor: u32, events: &VecDeque<Event>) -> bool
 /// Removes the events of a tag that wait for a unit, by a pass over all events.
 #[inline(never)]
 pub fn remove_some(events: &mut VecDeque<Event>, table: &[Groups], unit: Unit, tag: Tag)
-    ensures left { events.new.items ≡ filter (λ e. not (is_at table.now unit tag e)) events.old.items }
+    ensures left { events.new.items ≡ filter
+        (λ e. not (is_at table.now unit tag e)) events.old.items }
     ensures len { deque_len events.new ≤ deque_len events.old }
     ensures capacity { deque_capacity events.new ≡ deque_capacity events.old }
 {

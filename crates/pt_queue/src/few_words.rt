@@ -27,7 +27,8 @@ pub fn are_few_words(tags: &LeastTags) -> bool {
 /// The bits of a word, without that of a unit.
 #[inline(always)]
 fn without_own(word: u64, index: usize, unit: Unit) -> u64
-    ensures { (i : ℕ) → i < 64 → unit_with (64 * index + i) ≢ unit → bit_at word i ≡ 1 → bit_at result i ≡ 1 }
+    ensures { (i : ℕ) → i < 64 → unit_with (64 * index + i) ≢ unit → bit_at word i ≡ 1 →
+        bit_at result i ≡ 1 }
 {
     let place = place_of(unit);
     if unit.group >= 8 || place / 64 != index {
@@ -92,7 +93,8 @@ pub fn is_held_in_few(
     least: &Least,
 ) -> bool
     ensures held { result ≡ true → SomeHoldsUp table.now (least_of least.now) unit tag tags.now }
-    ensures free { result ≡ false → (x : Unit) → unit_holds_up table.now (least_of least.now) unit tag tags.now x ≡ false }
+    ensures free { result ≡ false → (x : Unit) →
+        unit_holds_up table.now (least_of least.now) unit tag tags.now x ≡ false }
 {
     let holder = match least.before(unit) {
         None => holder_in_few(table, tags, unit, tag, least, &[]),

@@ -65,7 +65,8 @@ fn is_least(so_far: Option<Tag>, tag: Tag) -> bool
 fn lower_time(times: &mut Vec<u64>, index: usize, time: Time)
     requires { index < length times.old.items }
     ensures here { slice_index_or times.new.items index 0 ≤ time }
-    ensures all { (n : ℕ) → slice_index_or times.new.items n 0 ≤ slice_index_or times.old.items n 0 }
+    ensures all { (n : ℕ) → slice_index_or times.new.items n 0
+        ≤ slice_index_or times.old.items n 0 }
     ensures len { length times.new.items ≡ length times.old.items }
 {
     if time < times[index] {
@@ -100,7 +101,8 @@ impl Model for LeastTags {
 
     ghost view = { λ l. l.tags.items };
 
-    ghost invariant = { λ l. AreMarked l.tags.items l.marks.items × AreSummed l.marks.items l.summary × AreFloors l.tags.items l.times.items };
+    ghost invariant = { λ l. AreMarked l.tags.items l.marks.items
+        × AreSummed l.marks.items l.summary × AreFloors l.tags.items l.times.items };
 }
 
 impl LeastTags {
@@ -185,7 +187,8 @@ impl LeastTags {
     #[inline(always)]
     pub fn set(&mut self, unit: Unit, tag: Option<Tag>)
         requires { IsSome tag → FitsIn (length self.old) unit }
-        ensures tags { (x : Unit) → tag_in self.new x ≡ (if same_part unit x then tag else tag_in self.old x) }
+        ensures tags { (x : Unit) → tag_in self.new x
+            ≡ (if same_part unit x then tag else tag_in self.old x) }
         ensures len { length self.new ≡ length self.old }
     {
         if unit.group >= 8 {
@@ -201,7 +204,8 @@ impl LeastTags {
     /// Sets the tag of a unit to this one, if it has none or a greater one.
     pub fn lower(&mut self, unit: Unit, tag: Tag)
         requires { FitsIn (length self.old) unit }
-        ensures tags { (x : Unit) → tag_in self.new x ≡ (if same_part unit x then sooner (tag_in self.old unit) tag else tag_in self.old x) }
+        ensures tags { (x : Unit) → tag_in self.new x
+            ≡ (if same_part unit x then sooner (tag_in self.old unit) tag else tag_in self.old x) }
         ensures len { length self.new ≡ length self.old }
     {
         if is_least(self.of(unit), tag) {
@@ -239,7 +243,8 @@ impl LeastTags {
     /// A time in microseconds that no tag with its place in this word is before.
     #[inline(always)]
     pub fn not_before(&self, word: usize) -> u64
-        ensures { (u : Unit) (t : Tag) → tag_in self.now u ≡ Some t → unit_place u / 64 ≡ word → result ≤ t.time }
+        ensures { (u : Unit) (t : Tag) → tag_in self.now u ≡ Some t → unit_place u / 64 ≡ word →
+            result ≤ t.time }
     {
         word_at(self.times.as_slice(), word)
     }
@@ -269,7 +274,8 @@ impl LeastTags {
 
     /// Words of `marks` outside of which no bit is set.
     pub fn span(&self) -> Span
-        ensures { (n : ℕ) → one_if (slice_index_or self.now n None) ≡ 1 → (result.from ≤ n / 64) × (n / 64 < result.end) }
+        ensures { (n : ℕ) → one_if (slice_index_or self.now n None) ≡ 1 → (result.from ≤ n / 64)
+            × (n / 64 < result.end) }
     {
         span_of(self.marks.as_slice(), self.summary)
     }

@@ -126,7 +126,8 @@ impl Lines {
     #[inline(always)]
     pub fn take(&mut self, line: usize, tag: Tag) -> Taken
         ensures value { result.value ≡ value_on (line_at self.old line) tag }
-        ensures left { self.new ≡ slice_set self.old line (filter (λ e. not (same_tag tag e.tag)) (line_at self.old line)) }
+        ensures left { self.new ≡ slice_set self.old line
+            (filter (λ e. not (same_tag tag e.tag)) (line_at self.old line)) }
         ensures next { result.next ≡ first (line_at self.new line) }
         ensures in_order { TagsRise (line_at self.new line) }
     {

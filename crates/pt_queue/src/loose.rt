@@ -13,8 +13,10 @@ use std::collections::VecDeque;
 /// Moves loose events into their lines, in order, up to the first that does not fit.
 pub fn settle(lines: &mut Lines, loose: &mut VecDeque<Event>)
     requires { Each (λ e. line_of_event e < length lines.old) loose.old.items }
-    ensures with_events { with_events lines.new loose.new.items ≡ with_events lines.old loose.old.items }
-    ensures kept { (table : List Groups) → AreKept table lines.old loose.old.items → AreKept table lines.new loose.new.items }
+    ensures with_events { with_events lines.new loose.new.items
+        ≡ with_events lines.old loose.old.items }
+    ensures kept { (table : List Groups) → AreKept table lines.old loose.old.items →
+        AreKept table lines.new loose.new.items }
     ensures len { deque_len loose.new ≤ deque_len loose.old }
     ensures capacity { deque_capacity loose.new ≡ deque_capacity loose.old }
 {

@@ -65,9 +65,15 @@ impl Model for Queue {
 
     ghost Value = { Queued };
 
-    ghost view = { λ q. record { groups = q.groups.items; events = all_of (with_events q.lines q.loose.items); spare = q.spare } };
+    ghost view = { λ q. record {
+      groups = q.groups.items;
+      events = all_of (with_events q.lines q.loose.items);
+      spare = q.spare;
+    } };
 
-    ghost invariant = { λ q. AreKept q.groups.items q.lines q.loose.items × (q.spare + deque_len q.loose ≤ deque_capacity q.loose) × AreTags q.groups.items (all_of (with_events q.lines q.loose.items)) q.tags };
+    ghost invariant = { λ q. AreKept q.groups.items q.lines q.loose.items
+        × (q.spare + deque_len q.loose ≤ deque_capacity q.loose)
+        × AreTags q.groups.items (all_of (with_events q.lines q.loose.items)) q.tags };
 }
 
 impl Queue {
@@ -149,7 +155,8 @@ impl Queue {
         requires actor { event.actor < length self.old.groups }
         requires port { event.port < 8 }
         requires absent { waiting_in self.old.events event.actor event.port event.tag ≡ None }
-        ensures waits { waiting_in self.new.events ≡ added (waiting_in self.old.events) (value_in event) }
+        ensures waits { waiting_in self.new.events
+            ≡ added (waiting_in self.old.events) (value_in event) }
         ensures spare { self.new.spare + 1 ≡ self.old.spare }
         ensures groups { self.new.groups ≡ self.old.groups }
     {
@@ -168,7 +175,8 @@ impl Queue {
 
     /// The least tag of the events at a unit's inputs; `None` if there are none.
     pub fn least(&self, unit: Unit) -> Option<Tag>
-        ensures { (g : Graph) → AreGroups g self.now.groups → IsLeastTag g (waiting_in self.now.events) unit result }
+        ensures { (g : Graph) → AreGroups g self.now.groups →
+            IsLeastTag g (waiting_in self.now.events) unit result }
     {
         self.tags.of(unit)
     }
@@ -178,7 +186,8 @@ impl Queue {
     /// The places of units rise by actor and group. So the next unit is the first from `place_of` of this one plus 1 on.
     #[inline(always)]
     pub fn first_waiting(&self, from: usize) -> Option<Waiting>
-        ensures { (g : Graph) → AreGroups g self.now.groups → IsFirstWaiting g (waiting_in self.now.events) from result }
+        ensures { (g : Graph) → AreGroups g self.now.groups →
+            IsFirstWaiting g (waiting_in self.now.events) from result }
     {
         self.tags.first_waiting(from)
     }
@@ -187,7 +196,9 @@ impl Queue {
     /// least of their times. If none of these units has events it is `u64::MAX`, or 0 for a word past the last one.
     #[inline(always)]
     pub fn not_before(&self, word: usize) -> u64
-        ensures { (g : Graph) → AreGroups g self.now.groups → (u : Unit) (t : Tag) → HasEvent g (waiting_in self.now.events) u t → unit_place u / 64 ≡ word → result ≤ t.time }
+        ensures { (g : Graph) → AreGroups g self.now.groups → (u : Unit) (t : Tag) →
+            HasEvent g (waiting_in self.now.events) u t → unit_place u / 64 ≡ word →
+            result ≤ t.time }
     {
         self.tags.not_before(word)
     }
@@ -195,7 +206,8 @@ impl Queue {
     /// Whether this is the only unit that has events.
     #[inline(always)]
     pub fn is_only(&self, unit: Unit) -> bool
-        ensures { (g : Graph) → AreGroups g self.now.groups → result ≡ true → IsOnlyUnit g (waiting_in self.now.events) unit }
+        ensures { (g : Graph) → AreGroups g self.now.groups → result ≡ true →
+            IsOnlyUnit g (waiting_in self.now.events) unit }
     {
         self.tags.is_only(unit)
     }
@@ -207,8 +219,10 @@ impl Queue {
 
     /// Removes the events of a tag at a unit's inputs, and returns their values by input.
     pub fn take(&mut self, unit: Unit, tag: Tag) -> Ports
-        ensures inputs { (g : Graph) → AreGroups g self.old.groups → result ≡ unit_inputs g (waiting_in self.old.events) unit tag }
-        ensures waits { (g : Graph) → AreGroups g self.old.groups → waiting_in self.new.events ≡ without_unit g (waiting_in self.old.events) unit tag }
+        ensures inputs { (g : Graph) → AreGroups g self.old.groups →
+            result ≡ unit_inputs g (waiting_in self.old.events) unit tag }
+        ensures waits { (g : Graph) → AreGroups g self.old.groups →
+            waiting_in self.new.events ≡ without_unit g (waiting_in self.old.events) unit tag }
         ensures spare { self.new.spare ≡ self.old.spare }
         ensures groups { self.new.groups ≡ self.old.groups }
     {
@@ -230,9 +244,11 @@ impl Queue {
     /// It can if the event's tag plus the least delay from its unit to this one is at most `tag`, provided that `least` gives
     /// the least delays of a lawful graph with these groups. (That such an event holds up a unit is from RTAS 2007.)
     pub fn blocked(&self, unit: Unit, tag: Tag, least: &Least) -> bool
-        ensures blocked { (g : Graph) → IsLawful g → AreGroups g self.now.groups → AreLeast g (least_of least.now) → IsUnit g unit
+        ensures blocked { (g : Graph) → IsLawful g → AreGroups g self.now.groups →
+            AreLeast g (least_of least.now) → IsUnit g unit
             → (result ≡ true) ↔ IsBlocked g (waiting_in self.now.events) unit tag }
-        ensures clear { (g : Graph) → IsLawful g → AreGroups g self.now.groups → AreLeast g (least_of least.now) → IsUnit g unit
+        ensures clear { (g : Graph) → IsLawful g → AreGroups g self.now.groups →
+            AreLeast g (least_of least.now) → IsUnit g unit
             → (result ≡ false) ↔ IsClear g (waiting_in self.now.events) unit tag }
     {
         is_blocked(
@@ -260,7 +276,8 @@ impl Queue {
 
     /// Whether no event waits.
     pub fn is_empty(&self) -> bool
-        ensures { (result ≡ true) ↔ ((a p : ℕ) (t : Tag) → waiting_in self.now.events a p t ≡ None) }
+        ensures { (result ≡ true) ↔ ((a p : ℕ) (t : Tag) →
+            waiting_in self.now.events a p t ≡ None) }
     {
         self.tags.first_waiting(0).is_none()
     }

@@ -18,6 +18,13 @@ use pt_tags::Tag;
 use pt_types::{Event, Ports, Unit};
 use std::collections::VecDeque;
 
+/// Which events are taken: those of a unit at a tag.
+#[derive(Clone, Copy)]
+struct Wanted {
+    unit: Unit,
+    tag: Tag,
+}
+
 /// Puts a value, if there is one, at a port that has none.
 fn put(values: &mut Ports, port: u32, value: Option<i64>)
     requires port { port < 8 }
@@ -55,9 +62,11 @@ fn take_value(
 ) -> Taken
     requires in_lines { AreInLines table.now lines.old }
     requires port { port < 8 }
-    requires loose { any_loose ≡ false → (p : ℕ) (t : Tag) → waiting_in loose.now.items actor p t ≡ None }
+    requires loose { any_loose ≡ false → (p : ℕ) (t : Tag) →
+        waiting_in loose.now.items actor p t ≡ None }
     ensures value { result.value ≡ waiting_in (all_of lines.old ++ loose.now.items) actor port tag }
-    ensures left { lines.new ≡ slice_set lines.old (8 * actor + port) (filter (λ e. not (same_tag tag e.tag)) (line_at lines.old (8 * actor + port))) }
+    ensures left { lines.new ≡ slice_set lines.old (8 * actor + port)
+        (filter (λ e. not (same_tag tag e.tag)) (line_at lines.old (8 * actor + port))) }
     ensures next { result.next ≡ first (line_at lines.new (8 * actor + port)) }
     ensures in_order { TagsRise (line_at lines.new (8 * actor + port)) }
 {
@@ -74,16 +83,15 @@ fn take_value(
     }
 }
 
-/// Takes the event at a tag from the line of one input, if that input is one of the unit's. Returns the lesser of `so_far`
-/// and the least tag that is left there.
+/// Takes the wanted event from the line of one input, if that input is one of the unit's. Returns the lesser of `so_far` and
+/// the least tag that is left there.
 #[inline(always)]
 fn take_port(
     lines: &mut Lines,
     table: &[Groups],
     loose: &VecDeque<Event>,
     any_loose: bool,
-    unit: Unit,
-    tag: Tag,
+    wanted: Wanted,
     port: u32,
     inputs: &mut Ports,
     so_far: Option<Tag>,
@@ -91,25 +99,40 @@ fn take_port(
     requires in_lines { AreInLines table.now lines.old }
     requires port { port < 8 }
     requires none { at_port inputs.old port ≡ None }
-    requires loose { any_loose ≡ false → (p : ℕ) (t : Tag) → waiting_in loose.now.items unit.actor p t ≡ None }
-    ensures lines { lines.new ≡ slice_set lines.old (8 * unit.actor + port) (filter (λ e. not (is_at table.now unit tag e)) (line_at lines.old (8 * unit.actor + port))) }
-    ensures inputs { inputs.new ≡ slice_set inputs.old port (when (group_in table.now unit.actor port == unit.group) (waiting_in (all_of lines.old ++ loose.now.items) unit.actor port tag)) }
-    ensures least { result ≡ least_from table.now unit so_far (line_at lines.new (8 * unit.actor + port)) }
+    requires loose { any_loose ≡ false → (p : ℕ) (t : Tag) →
+        waiting_in loose.now.items wanted.unit.actor p t ≡ None }
+    ensures lines { lines.new ≡ slice_set lines.old (8 * wanted.unit.actor + port)
+        (filter (λ e. not (is_at table.now wanted.unit wanted.tag e))
+        (line_at lines.old (8 * wanted.unit.actor + port))) }
+    ensures inputs { inputs.new ≡ slice_set inputs.old port
+        (when (group_in table.now wanted.unit.actor port == wanted.unit.group)
+        (waiting_in (all_of lines.old ++ loose.now.items) wanted.unit.actor port wanted.tag)) }
+    ensures least { result ≡ least_from table.now wanted.unit so_far
+        (line_at lines.new (8 * wanted.unit.actor + port)) }
 {
-    if !any_loose && lines.is_empty(line_number(unit.actor, port)) {
+    if !any_loose && lines.is_empty(line_number(wanted.unit.actor, port)) {
         return so_far;
     }
-    if group_in(table, unit.actor, port) != unit.group {
+    if group_in(table, wanted.unit.actor, port) != wanted.unit.group {
         return so_far;
     }
-    let taken = take_value(lines, table, loose, any_loose, unit.actor, port, tag);
+    let taken = take_value(
+        lines,
+        table,
+        loose,
+        any_loose,
+        wanted.unit.actor,
+        port,
+        wanted.tag,
+    );
     put(inputs, port, taken.value);
     sooner_first(so_far, taken.next)
 }
 
 /// A number below which are all inputs of an actor that have events; 8 if it has loose events.
 fn end_of(lines: &Lines, any_loose: bool, actor: u32) -> u32
-    ensures none { (p : ℕ) → result ≤ p → p < 8 → (line_at lines.now (8 * actor + p) ≡ []) × (any_loose ≡ false) }
+    ensures none { (p : ℕ) → result ≤ p → p < 8 → (line_at lines.now (8 * actor + p) ≡ [])
+        × (any_loose ≡ false) }
     ensures few { result ≤ 8 }
 {
     if any_loose {
@@ -134,15 +157,25 @@ fn take_from_lines(
 ) -> Option<Tag>
     requires in_lines { AreInLines table.now lines.old }
     requires empty { inputs.old ≡ eight nothing }
-    requires loose { any_loose ≡ false → (p : ℕ) (t : Tag) → waiting_in loose.now.items unit.actor p t ≡ None }
+    requires loose { any_loose ≡ false → (p : ℕ) (t : Tag) →
+        waiting_in loose.now.items unit.actor p t ≡ None }
     ensures lines { lines.new ≡ map (filter (λ e. not (is_at table.now unit tag e))) lines.old }
-    ensures inputs { inputs.new ≡ eight (λ p. when (group_in table.now unit.actor p == unit.group) (waiting_in (all_of lines.old ++ loose.now.items) unit.actor p tag)) }
+    ensures inputs { inputs.new ≡ eight
+        (λ p. when (group_in table.now unit.actor p == unit.group)
+        (waiting_in (all_of lines.old ++ loose.now.items) unit.actor p tag)) }
     ensures least { result ≡ least_from table.now unit None (all_of lines.new) }
 {
     let mut least = None;
     for port in 0..end_of(lines, any_loose, unit.actor) {
         least = take_port(
-            lines, table, loose, any_loose, unit, tag, port, inputs, least,
+            lines,
+            table,
+            loose,
+            any_loose,
+            Wanted { unit, tag },
+            port,
+            inputs,
+            least,
         );
     }
     least
@@ -161,10 +194,13 @@ fn take_with_loose(
     requires in_lines { AreInLines table.now lines.old }
     requires empty { inputs.old ≡ eight nothing }
     ensures lines { lines.new ≡ map (filter (λ e. not (is_at table.now unit tag e))) lines.old }
-    ensures loose { loose.new.items ≡ filter (λ e. not (is_at table.now unit tag e)) loose.old.items }
+    ensures loose { loose.new.items ≡ filter
+        (λ e. not (is_at table.now unit tag e)) loose.old.items }
     ensures len { deque_len loose.new ≤ deque_len loose.old }
     ensures capacity { deque_capacity loose.new ≡ deque_capacity loose.old }
-    ensures inputs { inputs.new ≡ eight (λ p. when (group_in table.now unit.actor p == unit.group) (waiting_in (all_of lines.old ++ loose.old.items) unit.actor p tag)) }
+    ensures inputs { inputs.new ≡ eight
+        (λ p. when (group_in table.now unit.actor p == unit.group)
+        (waiting_in (all_of lines.old ++ loose.old.items) unit.actor p tag)) }
     ensures least { result ≡ least_from table.now unit None (all_of lines.new ++ loose.new.items) }
 {
     let least = take_from_lines(lines, table, loose, true, unit, tag, inputs);
@@ -185,10 +221,13 @@ pub fn take_events(
     requires in_lines { AreInLines table.now lines.old }
     requires empty { inputs.old ≡ eight nothing }
     ensures lines { lines.new ≡ map (filter (λ e. not (is_at table.now unit tag e))) lines.old }
-    ensures loose { loose.new.items ≡ filter (λ e. not (is_at table.now unit tag e)) loose.old.items }
+    ensures loose { loose.new.items ≡ filter
+        (λ e. not (is_at table.now unit tag e)) loose.old.items }
     ensures len { deque_len loose.new ≤ deque_len loose.old }
     ensures capacity { deque_capacity loose.new ≡ deque_capacity loose.old }
-    ensures inputs { inputs.new ≡ eight (λ p. when (group_in table.now unit.actor p == unit.group) (waiting_in (all_of lines.old ++ loose.old.items) unit.actor p tag)) }
+    ensures inputs { inputs.new ≡ eight
+        (λ p. when (group_in table.now unit.actor p == unit.group)
+        (waiting_in (all_of lines.old ++ loose.old.items) unit.actor p tag)) }
     ensures least { result ≡ least_from table.now unit None (all_of lines.new ++ loose.new.items) }
 {
     if has_events(loose, unit.actor) {

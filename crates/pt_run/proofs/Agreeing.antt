@@ -11,7 +11,7 @@ use Rattle.pt_run.specs.RunsAgreeing.{ReportsSensors}
 use Rattle.pt_run.proofs.RunsAgreeing.{finished_agree, runs_agree as left_agree}
 use Rattle.pt_run.specs.Agreeing.{RunsAgree}
 use Rattle.pt_words.specs.declared.orders.ClockChoice.TheVariants.{Paced}
-use Rattle.pt_run.specs.Written.{IsRun, Leaves, clocking}
+use Rattle.pt_run.specs.Written.{IsRun, Leaves, run_clocks}
 
 -- a file with known content defines one graph
 same_ok : (g h : Graph) → ◌≡◌ {A = Result Graph GraphFault} (Ok g) (Ok h) → g ≡ h
@@ -26,8 +26,8 @@ over_graph : (contents : Contents) (g h : Graph) (workers others : ℕ) (log : B
 over_graph contents g h workers others log left other text written same files a b =
     let graphs : a.plan.graph ≡ b.plan.graph = a.graph ∙ same ∙ sym b.graph in
     let reported : ReportsSensors contents a.plan.graph = subst (ReportsSensors contents) (sym a.graph) files in
-    let c = clocking workers Paced left in
-    let d = clocking others Paced other in
+    let c = run_clocks workers Paced left in
+    let d = run_clocks others Paced other in
     let texts = finished_agree contents c d a.plan b.plan log left.platforms other.platforms left.misses other.misses text written refl refl graphs reported a.finished b.finished in
     (texts.0, texts.1, (left_agree contents c d a.plan b.plan left.platforms other.platforms None None refl refl graphs reported a.finished.run b.finished.run).0)
 

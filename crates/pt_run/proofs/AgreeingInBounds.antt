@@ -9,30 +9,30 @@ use Rattle.pt_history.specs.declared.miss.Miss.{Miss}
 use Rattle.pt_semantics.specs.Lists.{IsIn}
 use Rattle.pt_semantics.specs.Tables.{tables_text}
 use Rattle.pt_paced_laws.specs.Schedule.{IsMissedByMeaning}
-use Rattle.pt_io.specs.Calls.{Contents, Reading, Writing}
+use Rattle.pt_io.specs.Calls.{Contents, SourceCall, SinkCall}
 use Rattle.pt_words.specs.declared.orders.ClockChoice.TheVariants.{Paced}
 use Rattle.pt_run.specs.Complete.{CanRun}
 use Rattle.pt_words.specs.declared.orders.Command.TheVariants.{Run}
 use Rattle.pt_run.specs.InBounds.{ReplaysInBoundsAgreeWithRuns}
 use Rattle.pt_run.specs.Runs.{log_if}
 use Rattle.pt_words.specs.Grammar.{over, replay}
-use Rattle.pt_run.specs.Written.{Leaves, clocking}
+use Rattle.pt_run.specs.Written.{Leaves, run_clocks}
 use Rattle.pt_run.proofs.ByFault.{Ends}
 use Rattle.pt_run.proofs.Complete.{firings_meant, missed_meant, this_graph}
 use Rattle.pt_run.proofs.DueEnds.{due_ends}
 use Rattle.pt_run.proofs.CompleteInBounds.{missed_in_air, tables_in_air}
 
 -- what a paced run that finished wrote and missed
-module _ (contents : Contents) (blocks : List Named) (name : List ℕ) (g : Graph) (xs : List ActorFiring) (can : CanRun contents blocks name g xs) (workers : ℕ) (log : Bool) (left : Leaves) (r : Reading) (w : Writing) where
+module _ (contents : Contents) (blocks : List Named) (name : List ℕ) (g : Graph) (xs : List ActorFiring) (can : CanRun contents blocks name g xs) (workers : ℕ) (log : Bool) (left : Leaves) (r : SourceCall) (w : SinkCall) where
   paced : Ends None left (Some (over (Run workers Paced log) name)) contents blocks r w →
       Appends w.written_before w.written_now (tables_text g xs ++ log_if log g left.platforms) × ((m : Miss) → IsIn m left.misses ↔ IsMissedByMeaning g xs m.actor m.tag m.reading m.limit)
   paced (text, (h, file, (free, run)), appends) =
       let same : run.plan.graph ≡ g = run.graph ∙ this_graph contents blocks name g can.begins h file in
-      let firings : run.finished.firings ≡ xs = firings_meant contents blocks name g can.begins xs can.means (clocking workers Paced left) run.plan log left.platforms left.misses text refl same run.finished in (
+      let firings : run.finished.firings ≡ xs = firings_meant contents blocks name g can.begins xs can.means (run_clocks workers Paced left) run.plan log left.platforms left.misses text refl same run.finished in (
         subst (λ (z : Graph). Appends w.written_before w.written_now (tables_text z xs ++ log_if log z left.platforms)) same
             (subst (λ zs. Appends w.written_before w.written_now (tables_text run.plan.graph zs ++ log_if log run.plan.graph left.platforms)) firings
             (subst (Appends w.written_before w.written_now) run.finished.written appends)),
-        missed_meant contents blocks name g can.begins xs can.means (clocking workers Paced left) run.plan log left.platforms left.misses text refl same run.finished,
+        missed_meant contents blocks name g can.begins xs can.means (run_clocks workers Paced left) run.plan log left.platforms left.misses text refl same run.finished,
       )
 
 pub in_bounds_agree : ReplaysInBoundsAgreeWithRuns

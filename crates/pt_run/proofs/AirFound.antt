@@ -3,7 +3,7 @@ use Rattle.std.proofs.Common.{◌≡◌, ◌⊎◌, ℕ, List, Option, Some, Non
 use Rattle.pt_types.specs.declared.graph.Graph.{Graph}
 use Rattle.pt_blocks.specs.declared.blocks.Named.{Named}
 use Rattle.pt_graph.specs.GraphOf.{graph_of}
-use Rattle.pt_io.specs.Calls.{Contents, Reading, Writing}
+use Rattle.pt_io.specs.Calls.{Contents, SourceCall, SinkCall}
 use Rattle.pt_types.specs.declared.air.Air.{Air}
 use Rattle.pt_air.specs.declared.fault.AirFault.{AirFault}
 use Rattle.pt_air.specs.AirOf.{air_of}
@@ -26,7 +26,7 @@ unread : (sensor : Option ℕ) → WantsAir (Some (fault.Read sensor))
 unread None = inl (inl (inr refl))
 unread (Some actor) = inl (inr (actor, refl))
 
-module _ (order : Option Order) (left : Leaves) (contents : Contents) (blocks : List Named) (r : Reading) (w : Writing) (g : Graph) (bytes : List ℕ) (f : AirFault) (can : CanReadAir order contents blocks g bytes) (is : air_of g bytes ≡ Err f) where
+module _ (order : Option Order) (left : Leaves) (contents : Contents) (blocks : List Named) (r : SourceCall) (w : SinkCall) (g : Graph) (bytes : List ℕ) (f : AirFault) (can : CanReadAir order contents blocks g bytes) (is : air_of g bytes ≡ Err f) where
   here : (h : Graph) → IfSome (contents can.name) (λ content. graph_of blocks content ≡ Ok h) → h ≡ g
   here h file = this_graph contents blocks can.name g can.begins h file
 

@@ -1,5 +1,5 @@
 -- Which files a source was asked for.
-use Rattle.std.proofs.Common.{◌≡◌, ◌≢◌, ◌⊎◌, ℕ, zero, suc, List, [], ◌∷◌, ◌+◌, ◌++◌, Option, Some, None, Result, Ok, Err, IfSome, IfErr, IfOk, take, append_assoc, refl, sym, ap, subst, ◌∙◌, inl, inr, ⊎_elim}
+use Rattle.std.proofs.Common.{◌≡◌, ◌≢◌, ◌⊎◌, ℕ, zero, suc, List, [], ◌∷◌, ◌+◌, ◌++◌, Option, Some, None, Result, Ok, Err, IfSome, IfErr, take, append_assoc, refl, sym, ap, subst, ◌∙◌, inl, inr, ⊎_elim}
 use Rattle.pt_types.specs.declared.graph.Graph.{Graph}
 use Rattle.pt_types.specs.declared.graph.Actor.{Actor}
 use Rattle.pt_blocks.specs.declared.blocks.Named.{Named}
@@ -12,7 +12,7 @@ use Rattle.pt_causality.specs.declared.cycle.CycleFault.TheVariants as cycle
 use Rattle.pt_sensors.specs.declared.recorded_fault.RecordedFault.{RecordedFault}
 use Rattle.pt_sensors.specs.declared.recorded_fault.RecordedFault.TheVariants as rows
 use Rattle.pt_sensors.specs.Asked.{Asks, AsksUpTo, file_of, files_before, sensor_files}
-use Rattle.pt_io.specs.Calls.{Contents, Reading, Writing}
+use Rattle.pt_io.specs.Calls.{Contents, SourceCall, SinkCall}
 use Rattle.pt_sensors.proofs.Asking.{append_none, asks_more, asks_none}
 use Rattle.pt_turn.specs.declared.fault.TurnFault.{TurnFault}
 use Rattle.pt_turn.specs.declared.fault.TurnFault.TheVariants as turn
@@ -113,7 +113,7 @@ module _ (first : List (List ℕ)) (actors : List Actor) (last : List (List ℕ)
       reported
 
   -- nothing more is asked for while an answer is given
-  pub given_asks : {X : Type 0} (text : X → List ℕ) (made : Result X Fault) (o : Ending) (w : Writing) → PutsOrReports text made o w → AsksOver (fault_in made) first actors last before now → AsksOver o.fault first actors last before now
+  pub given_asks : {X : Type 0} (text : X → List ℕ) (made : Result X Fault) (o : Ending) (w : SinkCall) → PutsOrReports text made o w → AsksOver (fault_in made) first actors last before now → AsksOver o.fault first actors last before now
   given_asks text (Ok made) o w (left, put) h = by_put o.fault put
     where
       by_put : (e : Option Fault) → PutBy e (text made) w → AsksOver e first actors last before now
@@ -178,7 +178,7 @@ pub all_rows_asked : (g : Graph) (before now : Option (List (List ℕ))) → Ask
 all_rows_asked g before now asks = subst (Asks before now) (sym (append_none (all_sensors g))) asks
 
 -- a meaning whose rows were available
-module _ (g : Graph) (rows : ℕ → List Row) (r : Reading) (before now : Option (List (List ℕ))) (all : Asks before now (all_sensors g)) where
+module _ (g : Graph) (rows : ℕ → List Row) (r : SourceCall) (before now : Option (List (List ℕ))) (all : Asks before now (all_sensors g)) where
   abbrev refused : Fault → Answer
   refused f = record { fault = Some f; left = leaves_nothing; read = r; wrote = record { before = 0; now = 0; written_before = None; written_now = None } }
 
@@ -199,7 +199,7 @@ module _ (g : Graph) (rows : ℕ → List Row) (r : Reading) (before now : Optio
   meant_asks text (Err f) due = meant f (due (refused f) refl (refl, (refl, refl), refl))
 
 -- nothing more is asked for once a run or a replay ended
-pub ended_asks : (ran : Result Outputs Stopped) (o : Ending) (w : Writing) (actors : List Actor) (last : List (List ℕ)) (before now : Option (List (List ℕ))) → HasEnded ran o w → AsksOver (stop_in ran) [] actors last before now → AsksOver o.fault [] actors last before now
+pub ended_asks : (ran : Result Outputs Stopped) (o : Ending) (w : SinkCall) (actors : List Actor) (last : List (List ℕ)) (before now : Option (List (List ℕ))) → HasEnded ran o w → AsksOver (stop_in ran) [] actors last before now → AsksOver o.fault [] actors last before now
 ended_asks (Ok ran) o w actors last before now ends h = ⊎_elim (λ all. subst (λ e. AsksOver e [] actors last before now) (sym all.0) h) (λ part. subst (λ e. AsksOver e [] actors last before now) (sym part.0) h) ends
 ended_asks (Err s) o w actors last before now ends h =
     ⊎_elim
@@ -246,7 +246,7 @@ alone_asks graph.Memory name before now asks = inr asks
 alone_asks f name before now asks = asks
 
 -- memory ran out before the words were read
-pub asked_nothing : (order : Option Order) (outcome : Option Fault) (contents : Contents) (blocks : List Named) (r : Reading) → outcome ≡ Some fault.Memory → Asks r.asked_before r.asked_now [] → AsksOf outcome order contents blocks r
+pub asked_nothing : (order : Option Order) (outcome : Option Fault) (contents : Contents) (blocks : List Named) (r : SourceCall) → outcome ≡ Some fault.Memory → Asks r.asked_before r.asked_now [] → AsksOf outcome order contents blocks r
 asked_nothing None outcome contents blocks r is h = h
 asked_nothing (Some (over command name)) outcome contents blocks r is h = subst (λ o. AsksOf o (Some (over command name)) contents blocks r) (sym is) (inl (inl h))
 asked_nothing (Some (make number workers)) outcome contents blocks r is h = h

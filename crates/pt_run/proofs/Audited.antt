@@ -9,7 +9,7 @@ use Rattle.pt_offsets.specs.Plans.{Parts}
 use Rattle.pt_offsets.specs.Margins.{IsFirstInfeasible}
 use Rattle.pt_semantics.specs.Cycles.{NoFreeCycle}
 use Rattle.pt_sensors.specs.declared.recorded_fault.LateRows.TheVariants.{Refused}
-use Rattle.pt_io.specs.Calls.{Contents, Reading, Writing}
+use Rattle.pt_io.specs.Calls.{Contents, SourceCall, SinkCall}
 use Rattle.pt_sensors.specs.Places.{of_run}
 use Rattle.pt_sensors.specs.Recorded.{SensorFails, SensorLate}
 use Rattle.pt_audit.specs.LawfulLogs.{IsLawfulLog}
@@ -43,7 +43,7 @@ pub data Audited (plan : Parts) (rows : ℕ → List Row) (bytes : List ℕ) (ou
 of_content : (content : Option (List ℕ)) (bytes : List ℕ) (Fact : List ℕ → Type 0) → content ≡ Some bytes → IfSome content Fact → Fact bytes
 of_content content bytes Fact is h = subst (λ c. IfSome c Fact) is h
 
-module _ (order : Option Order) (left : Leaves) (contents : Contents) (blocks : List Named) (r : Reading) (w : Writing) (plan : Parts) (rows : ℕ → List Row) (bytes : List ℕ) (can : CanAudit order contents blocks plan rows bytes) where
+module _ (order : Option Order) (left : Leaves) (contents : Contents) (blocks : List Named) (r : SourceCall) (w : SinkCall) (plan : Parts) (rows : ℕ → List Row) (bytes : List ℕ) (can : CanAudit order contents blocks plan rows bytes) where
   abbrev begins : CanBegin contents blocks can.name plan.graph
   begins = can.begins
 

@@ -6,7 +6,7 @@ use Rattle.pt_blocks.specs.declared.blocks.Named.{Named}
 use Rattle.pt_causality.specs.Ranked.{IsFreeCycle}
 use Rattle.pt_offsets.specs.Margins.{IsFirstInfeasible}
 use Rattle.pt_sensors.specs.declared.recorded_fault.LateRows.TheVariants.{Refused}
-use Rattle.pt_io.specs.Calls.{Contents, Reading, Writing}
+use Rattle.pt_io.specs.Calls.{Contents, SourceCall, SinkCall}
 use Rattle.pt_sensors.specs.Recorded.{SensorFails, SensorLate}
 use Rattle.pt_run.specs.declared.fault.Fault.{Fault}
 use Rattle.pt_run.specs.declared.fault.Fault.TheVariants as fault
@@ -17,7 +17,7 @@ use Rattle.pt_run.proofs.ByFault.{IsCause, is_before_last}
 use Rattle.pt_run.proofs.Stages.{not_true}
 use Rattle.pt_run.proofs.Complete.{no_fault, sensor_fails, sensor_late, this_graph, too_late}
 
-module _ (contents : Contents) (blocks : List Named) (name : List ℕ) (g : Graph) (can : CanBegin contents blocks name g) (left : Leaves) (r : Reading) (w : Writing) where
+module _ (contents : Contents) (blocks : List Named) (name : List ℕ) (g : Graph) (can : CanBegin contents blocks name g) (left : Leaves) (r : SourceCall) (w : SinkCall) where
   pub only_unread : (f : Fault) → is_before_last f ≡ true → IsCause f left paced_run contents blocks name r w → (sensor : Option ℕ) × (f ≡ fault.Read sensor) × Rose r.before r.now
   only_unread (fault.Graph f) before k = absurd (no_fault contents blocks name g can f k.0)
   only_unread (fault.Cycle actors) before ((h, file, cause), same) =

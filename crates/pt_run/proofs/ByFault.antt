@@ -15,7 +15,7 @@ use Rattle.pt_slacks.specs.Rings.{IsRing}
 use Rattle.pt_slacks.specs.Text.{IsSlacked}
 use Rattle.pt_sensors.specs.declared.recorded_fault.LateRows.TheVariants.{Refused, Taken}
 use Rattle.pt_sensors.specs.Asked.{ReadFails}
-use Rattle.pt_io.specs.Calls.{Contents, Reading, Writing}
+use Rattle.pt_io.specs.Calls.{Contents, SourceCall, SinkCall}
 use Rattle.pt_sensors.specs.Recorded.{AreRows, SensorFails, SensorLate, SensorUnread}
 use Rattle.pt_turn.specs.declared.fault.TurnFault.{TurnFault}
 use Rattle.pt_turn.specs.declared.fault.TurnFault.TheVariants as turn
@@ -34,7 +34,7 @@ use Rattle.pt_run.specs.Replaying.{LeavesReplay, OnAir}
 use Rattle.pt_run.specs.Runs.{IsOutcomeOver}
 use Rattle.pt_words.specs.Grammar.{Order, over, make, migrate, audit, replay}
 use Rattle.pt_run.specs.Reporting.{paced_run}
-use Rattle.pt_run.specs.Written.{FitOnAll, GraphWith, HasNothing, IsChecked, IsRun, IsTables, Leaves, clocking}
+use Rattle.pt_run.specs.Written.{FitOnAll, GraphWith, HasNothing, IsChecked, IsRun, IsTables, Leaves, run_clocks}
 
 -- the meaning of the graph and its sensors' rows is too long
 pub record MeansLong (contents : Contents) (g : Graph) : Type 0 where
@@ -77,7 +77,7 @@ WrotePart command contents blocks name left before now =
 pub record RunStops (contents : Contents) (g : Graph) (workers : ℕ) (clock : ClockChoice) (left : Leaves) (platform : ℕ) (fault : TurnFault) : Type 0 where
   pub plan : Parts
   pub graph : plan.graph ≡ g
-  pub run : IsOutcomeOver contents (clocking workers clock left) plan left.platforms (Some (platform, fault))
+  pub run : IsOutcomeOver contents (run_clocks workers clock left) plan left.platforms (Some (platform, fault))
   pub no_misses : left.misses ≡ []
 
 -- the rows of a graph's sensors are not available, though each sender can send in time, and nothing is left
@@ -85,7 +85,7 @@ abbrev pub RowsFail : Graph → Leaves → Type 0 → Type 0
 RowsFail g left Fails = IsFeasible g × Fails × HasNothing left
 
 -- why a run of a graph without a free cycle gave no text; `others` were asked for before the sensors' files
-abbrev pub CauseOfRun : ℕ → ClockChoice → Fault → Leaves → Contents → Graph → List (List ℕ) → Reading → Type 0
+abbrev pub CauseOfRun : ℕ → ClockChoice → Fault → Leaves → Contents → Graph → List (List ℕ) → SourceCall → Type 0
 CauseOfRun workers clock (fault.Infeasible send offset slack) left contents g others r = IsFirstInfeasible g send offset slack × HasNothing left
 CauseOfRun workers clock (fault.Read (Some actor)) left contents g others r = RowsFail g left (SensorUnread Refused contents g actor others r)
 CauseOfRun workers clock (fault.Sensor actor f) left contents g others r = RowsFail g left (SensorFails Refused contents g actor f)
@@ -100,7 +100,7 @@ CauseOfCheck (fault.Infeasible send offset slack) g = IsFirstInfeasible g send o
 CauseOfCheck _ g = ⊥
 
 -- why `meaning` gave no text for a graph without a free cycle
-abbrev pub CauseOfMeaning : Fault → Contents → Graph → List (List ℕ) → Reading → Type 0
+abbrev pub CauseOfMeaning : Fault → Contents → Graph → List (List ℕ) → SourceCall → Type 0
 CauseOfMeaning (fault.Read (Some actor)) contents g others r = SensorUnread Taken contents g actor others r
 CauseOfMeaning (fault.Sensor actor f) contents g others r = SensorFails Taken contents g actor f
 CauseOfMeaning (fault.Long None) contents g others r = MeansLong contents g
@@ -112,20 +112,20 @@ CauseOfNoSlacks (fault.Ring sends gain) g = IsRing g sends gain
 CauseOfNoSlacks _ g = ⊥
 
 -- why a command gave no text for a graph without a free cycle
-abbrev pub CauseOfText : Command → Fault → Leaves → Contents → Graph → List (List ℕ) → Reading → Type 0
+abbrev pub CauseOfText : Command → Fault → Leaves → Contents → Graph → List (List ℕ) → SourceCall → Type 0
 CauseOfText (Run workers clock log) f left contents g others r = CauseOfRun workers clock f left contents g others r
 CauseOfText Check f left contents g others r = CauseOfCheck f g × HasNothing left
 CauseOfText Meaning f left contents g others r = CauseOfMeaning f contents g others r × HasNothing left
 CauseOfText Slacks f left contents g others r = CauseOfNoSlacks f g × HasNothing left
 
 -- why a command gave no text for a graph: a cycle that takes no time comes before all other causes
-abbrev pub CauseOf : Command → Fault → Leaves → Contents → Graph → List (List ℕ) → Reading → Type 0
+abbrev pub CauseOf : Command → Fault → Leaves → Contents → Graph → List (List ℕ) → SourceCall → Type 0
 CauseOf command (fault.Cycle actors) left contents g others r = IsFreeCycle g actors × HasNothing left
 CauseOf command fault.Memory left contents g others r = HasNothing left
 CauseOf command f left contents g others r = NoFreeCycle g × CauseOfText command f left contents g others r
 
 -- why the graph file with this name gave no graph
-abbrev pub CauseOfGraph : Fault → Contents → List Named → List ℕ → Reading → Type 0
+abbrev pub CauseOfGraph : Fault → Contents → List Named → List ℕ → SourceCall → Type 0
 CauseOfGraph (fault.Graph f) contents blocks name r = IfSome (contents name) (λ bytes. graph_of blocks bytes ≡ Err f)
 CauseOfGraph (fault.Read None) contents blocks name r = ReadFails [] name r
 CauseOfGraph fault.Memory contents blocks name r = Unit {0}
@@ -133,7 +133,7 @@ CauseOfGraph _ contents blocks name r = ⊥
 
 -- why a command on a graph file ended with a fault, and what it leaves: a failed write leaves a prefix of what the command
 -- must write, and every other fault writes nothing
-abbrev pub IsCause : Fault → Leaves → Command → Contents → List Named → List ℕ → Reading → Writing → Type 0
+abbrev pub IsCause : Fault → Leaves → Command → Contents → List Named → List ℕ → SourceCall → SinkCall → Type 0
 IsCause fault.Usage left command contents blocks name r w = ⊥
 IsCause (fault.Graph f) left command contents blocks name r w = CauseOfGraph (fault.Graph f) contents blocks name r × HasNothing left × (w.written_now ≡ w.written_before)
 IsCause (fault.Read None) left command contents blocks name r w = CauseOfGraph (fault.Read None) contents blocks name r × HasNothing left × (w.written_now ≡ w.written_before)
@@ -143,7 +143,7 @@ IsCause f left command contents blocks name r w = GraphWith contents blocks name
 
 -- how a call ends: out of memory; if the words are not a valid command line, with the usage; else with what the command must
 -- write, or with a fault that has its cause
-abbrev pub EndsBy : Option Fault → Leaves → Option (Command × List ℕ) → Contents → List Named → Reading → Writing → Type 0
+abbrev pub EndsBy : Option Fault → Leaves → Option (Command × List ℕ) → Contents → List Named → SourceCall → SinkCall → Type 0
 EndsBy (Some fault.Memory) left order contents blocks r w = HasNothing left × (w.written_now ≡ w.written_before)
 EndsBy outcome left None contents blocks r w = (outcome ≡ Some fault.Usage) × HasNothing left × (w.written_now ≡ w.written_before)
 EndsBy None left (Some order) contents blocks r w = Wrote order.0 contents blocks order.1 left w.written_before w.written_now
@@ -155,7 +155,7 @@ PutsMigrated contents blocks name Put = GraphWith contents blocks name (λ g. (t
 
 -- how the command ends: the text is written, a write fails after a prefix of it, or the graph file gives no graph or memory
 -- runs out, and then nothing is written. No other cause is looked at, so a graph that can't run is written as it is
-abbrev pub EndsMigrated : Option Fault → Leaves → List ℕ → Contents → List Named → Reading → Writing → Type 0
+abbrev pub EndsMigrated : Option Fault → Leaves → List ℕ → Contents → List Named → SourceCall → SinkCall → Type 0
 EndsMigrated None left name contents blocks r w = HasNothing left × PutsMigrated contents blocks name (Appends w.written_before w.written_now)
 EndsMigrated (Some fault.Write) left name contents blocks r w = HasNothing left × Rose w.before w.now × PutsMigrated contents blocks name (AppendsPart w.written_before w.written_now)
 EndsMigrated (Some f) left name contents blocks r w = HasNothing left × CauseOfGraph f contents blocks name r × (w.written_now ≡ w.written_before)
@@ -173,7 +173,7 @@ is_before_last _ = false
 -- how the command ends: with the line `lawful` for a lawful log, of which a prefix is there if a write fails; with the verdict on
 -- any other log; or with no log. The graph file then defines an admitted graph, and its sensors' files have rows, none of which is
 -- late. It ends with any other fault as a paced run ends with it, before the log is read, unless memory runs out. Nothing is left
-abbrev pub EndsAudit : Option Fault → Leaves → List ℕ → List ℕ → Contents → List Named → Reading → Writing → Type 0
+abbrev pub EndsAudit : Option Fault → Leaves → List ℕ → List ℕ → Contents → List Named → SourceCall → SinkCall → Type 0
 EndsAudit None left name log contents blocks r w = HasNothing left × RunWith contents blocks name (OnLog contents log Accepts) × Appends w.written_before w.written_now lawful_line
 EndsAudit (Some fault.Write) left name log contents blocks r w =
     HasNothing left × RunWith contents blocks name (OnLog contents log Accepts) × Rose w.before w.now × AppendsPart w.written_before w.written_now lawful_line
@@ -187,7 +187,7 @@ EndsAudit (Some f) left name log contents blocks r w = (is_before_last f ≡ tru
 -- how a replay ends, for an admitted plan of its graph and rows of its sensors, none of which is late (`With`): the platforms ran,
 -- with the lags and transits that the file `air` says; or that file has a fault, or could not be read, and nothing is left. It ends
 -- with any other fault as a paced run ends with it (`Other`), before that file is read, unless memory runs out
-abbrev pub EndsInAir : ((Parts → (ℕ → List Row) → Type 0) → Type 0) → (Fault → Type 0) → List (List ℕ) → Option Fault → Leaves → List ℕ → Bool → Contents → Reading → Writing → Type 0
+abbrev pub EndsInAir : ((Parts → (ℕ → List Row) → Type 0) → Type 0) → (Fault → Type 0) → List (List ℕ) → Option Fault → Leaves → List ℕ → Bool → Contents → SourceCall → SinkCall → Type 0
 EndsInAir With Other others None left air log contents r w = With (OnAir contents air (LeavesReplay log None left w))
 EndsInAir With Other others (Some fault.Write) left air log contents r w = Rose w.before w.now × With (OnAir contents air (LeavesReplay log (Some fault.Write) left w))
 EndsInAir With Other others (Some (fault.Long (Some platform))) left air log contents r w = With (OnAir contents air (LeavesReplay log (Some (fault.Long (Some platform))) left w))
@@ -198,18 +198,18 @@ EndsInAir With Other others (Some fault.Memory) left air log contents r w = HasN
 EndsInAir With Other others (Some f) left air log contents r w = (is_before_last f ≡ true) × HasNothing left × Other f
 
 -- how a replay over the graph file with this name ends
-abbrev pub EndsReplay : Option Fault → Leaves → List ℕ → List ℕ → Bool → Contents → List Named → Reading → Writing → Type 0
+abbrev pub EndsReplay : Option Fault → Leaves → List ℕ → List ℕ → Bool → Contents → List Named → SourceCall → SinkCall → Type 0
 EndsReplay outcome left name air log contents blocks r w = EndsInAir (RunWith contents blocks name) (λ f. IsCause f left paced_run contents blocks name r w) (name ∷ []) outcome left air log contents r w
 
 -- how such a run ends: its text is written, a write fails after a prefix of it, or memory runs out
-abbrev pub EndsMade : Option Fault → Leaves → ℕ → Writing → Type 0
+abbrev pub EndsMade : Option Fault → Leaves → ℕ → SinkCall → Type 0
 EndsMade None left n w = (left.misses ≡ []) × (text : List ℕ) × IsMadeRun n left.platforms text × Appends w.written_before w.written_now text
 EndsMade (Some fault.Write) left n w = Rose w.before w.now × (left.misses ≡ []) × (text : List ℕ) × IsMadeRun n left.platforms text × AppendsPart w.written_before w.written_now text
 EndsMade (Some fault.Memory) left n w = HasNothing left × (w.written_now ≡ w.written_before)
 EndsMade (Some f) left n w = ⊥
 
 -- how a call ends, by what the words ask for
-abbrev pub Ends : Option Fault → Leaves → Option Order → Contents → List Named → Reading → Writing → Type 0
+abbrev pub Ends : Option Fault → Leaves → Option Order → Contents → List Named → SourceCall → SinkCall → Type 0
 Ends outcome left None contents blocks r w = EndsBy outcome left None contents blocks r w
 Ends outcome left (Some (over command graph)) contents blocks r w = EndsBy outcome left (Some (command, graph)) contents blocks r w
 Ends outcome left (Some (make number workers)) contents blocks r w = EndsMade outcome left number w

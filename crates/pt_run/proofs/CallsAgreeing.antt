@@ -15,17 +15,17 @@ use Rattle.pt_turn.specs.declared.fault.TurnFault.{TurnFault}
 use Rattle.pt_turn.specs.declared.fault.TurnFault.TheVariants as turn
 use Rattle.pt_turn.specs.All.{histories_of}
 use Rattle.pt_turn.specs.Platforms.{PlatformView}
-use Rattle.pt_io.specs.Calls.{Contents, Reading, Writing}
+use Rattle.pt_io.specs.Calls.{Contents, SourceCall, SinkCall}
 use Rattle.pt_words.specs.declared.orders.ClockChoice.{ClockChoice}
 use Rattle.pt_words.specs.declared.orders.ClockChoice.TheVariants.{Machine, Paced, Step}
-use Rattle.pt_run.specs.Agreeing.{TellsAll}
+use Rattle.pt_run.specs.Agreeing.{ReportsAll}
 use Rattle.pt_run.specs.CallsAgreeing.{CallsAgree, EndAlike, IsFixed, IsUndisturbed}
 use Rattle.pt_run.proofs.ByCause.{ComesByCause, Defines, ReadsRows, WantsGraph, WantsRows}
 use Rattle.pt_run.specs.RunsAgreeing.{ReportsSensors}
 use Rattle.pt_run.specs.Runs.{IsOutcomeOver, IsFinishedRun}
 use Rattle.pt_run.specs.Statuses.{status_of, status_of_fault}
 use Rattle.pt_words.specs.Grammar.{over}
-use Rattle.pt_run.specs.Written.{HasNothing, Leaves, clocking, has_run, stop_of}
+use Rattle.pt_run.specs.Written.{HasNothing, Leaves, run_clocks, has_run, stop_of}
 use Rattle.pt_run.specs.declared.fault.Fault.{Fault}
 use Rattle.pt_run.specs.declared.fault.Fault.TheVariants as fault
 use Rattle.pt_words.specs.declared.orders.Command.TheVariants.{Run}
@@ -66,17 +66,17 @@ no_graph o calm wants = ⊎_elim (λ (e : o ≡ Some fault.Memory). not_memory o
 no_rows : (o : Option Fault) → IsUndisturbed o → WantsRows o → ⊥
 no_rows o calm wants = ⊎_elim (λ (h : WantsGraph o). no_graph o calm h) (λ (h : (actor : ℕ) × (o ≡ Some (fault.Read (Some actor)))). not_read o (Some h.0) calm h.1) wants
 
-module _ (clock : ClockChoice) (log : Bool) (contents : Contents) (blocks : List Named) (name : List ℕ) (all : TellsAll contents blocks name) where
+module _ (clock : ClockChoice) (log : Bool) (contents : Contents) (blocks : List Named) (name : List ℕ) (all : ReportsAll contents blocks name) where
   -- a call that had a run and wrote all of its text, which is none if a platform stopped the run
-  record Runs (workers : ℕ) (o : Option Fault) (left : Leaves) (w : Writing) : Type 0 where
+  record Runs (workers : ℕ) (o : Option Fault) (left : Leaves) (w : SinkCall) : Type 0 where
     ran : has_run o ≡ true
     is : o ≡ answer_of (stop_of o)
     plan : Parts
     file : graph_of blocks all.bytes ≡ Ok plan.graph
-    run : IsOutcomeOver contents (clocking workers clock left) plan left.platforms (stop_of o)
+    run : IsOutcomeOver contents (run_clocks workers clock left) plan left.platforms (stop_of o)
     text : List ℕ
     wrote : Appends w.written_before w.written_now text
-    finished : o ≡ None → IsFinishedRun contents (clocking workers clock left) plan log left.platforms left.misses text
+    finished : o ≡ None → IsFinishedRun contents (run_clocks workers clock left) plan log left.platforms left.misses text
     stopped : (f : Fault) → o ≡ Some f → (left.misses ≡ []) × (text ≡ [])
 
   -- the answer of any other undisturbed call has the same status
@@ -84,7 +84,7 @@ module _ (clock : ClockChoice) (log : Bool) (contents : Contents) (blocks : List
   Decides f = (workers : ℕ) (o : Option Fault) → ComesByCause o (Some (over (Run workers clock log) name)) contents blocks → IsUndisturbed o → (e : Fault) × (o ≡ Some e) × (status_of_fault e ≡ status_of_fault f) × (has_run (Some e) ≡ false)
 
   -- a call that was refused for a cause in its files
-  record Refuses (o : Option Fault) (left : Leaves) (w : Writing) : Type 0 where
+  record Refuses (o : Option Fault) (left : Leaves) (w : SinkCall) : Type 0 where
     answer : Fault
     is : o ≡ Some answer
     none : stop_of (Some answer) ≡ None
@@ -108,9 +108,9 @@ module _ (clock : ClockChoice) (log : Bool) (contents : Contents) (blocks : List
   by_cause : (f : Fault) (o : Option Fault) (Wants : Type 0) → has_run (Some f) ≡ false → (Wants → ⊥) → (o ≡ Some f) ⊎ Wants → (e : Fault) × (o ≡ Some e) × (status_of_fault e ≡ status_of_fault f) × (has_run (Some e) ≡ false)
   by_cause f o Wants never calm h = ⊎_elim (λ (is : o ≡ Some f). (f, is, refl, never)) (λ (wants : Wants). absurd (calm wants)) h
 
-  module _ (workers : ℕ) (left : Leaves) (r : Reading) (w : Writing) where
+  module _ (workers : ℕ) (left : Leaves) (r : SourceCall) (w : SinkCall) where
     -- a platform stopped the run
-    halted : (o : Option Fault) (g : Graph) → o ≡ answer_of (stop_of o) → has_run o ≡ true → (o ≡ None → ⊥) → IfSome (contents name) (λ bytes. graph_of blocks bytes ≡ Ok g) → (plan : Parts) → plan.graph ≡ g → IsOutcomeOver contents (clocking workers clock left) plan left.platforms (stop_of o) →
+    halted : (o : Option Fault) (g : Graph) → o ≡ answer_of (stop_of o) → has_run o ≡ true → (o ≡ None → ⊥) → IfSome (contents name) (λ bytes. graph_of blocks bytes ≡ Ok g) → (plan : Parts) → plan.graph ≡ g → IsOutcomeOver contents (run_clocks workers clock left) plan left.platforms (stop_of o) →
         left.misses ≡ [] → w.written_now ≡ w.written_before → Runs workers o left w
     halted o g is ran some file plan graph run none same = record {
       ran = ran;
@@ -172,7 +172,7 @@ module _ (clock : ClockChoice) (log : Bool) (contents : Contents) (blocks : List
         (λ others o h still. by_cause (fault.LateRow actor row seen limit) o (WantsRows o) refl (no_rows o still) (h.late_row others clock log g actor row seen limit (reads others g file free feasible) cause)))
 
   -- two calls that had a run
-  module _ (workers others : ℕ) (o p : Option Fault) (left leaves : Leaves) (r q : Reading) (w v : Writing) (h : Runs workers o left w) (k : Runs others p leaves v) where
+  module _ (workers others : ℕ) (o p : Option Fault) (left leaves : Leaves) (r q : SourceCall) (w v : SinkCall) (h : Runs workers o left w) (k : Runs others p leaves v) where
     graphs : h.plan.graph ≡ k.plan.graph
     graphs = same_ok h.plan.graph k.plan.graph (sym h.file ∙ k.file)
 
@@ -183,9 +183,9 @@ module _ (clock : ClockChoice) (log : Bool) (contents : Contents) (blocks : List
     ran_alike = by_clock clock refl
       where
         by_clock : (choice : ClockChoice) → clock ≡ choice → IsFixed choice left.platforms → IsFixed choice leaves.platforms → ((i : ℕ) → histories_of left.platforms i ≡ histories_of leaves.platforms i) × (stop_of o ≡ stop_of p)
-        by_clock Paced e few small = runs_agree contents (clocking workers clock left) (clocking others clock leaves) h.plan k.plan left.platforms leaves.platforms (stop_of o) (stop_of p) e e graphs reported h.run k.run
+        by_clock Paced e few small = runs_agree contents (run_clocks workers clock left) (run_clocks others clock leaves) h.plan k.plan left.platforms leaves.platforms (stop_of o) (stop_of p) e e graphs reported h.run k.run
         by_clock (Step start step) e few small =
-            step_runs contents start step (clocking workers clock left) (clocking others clock leaves) h.plan k.plan left.platforms leaves.platforms (stop_of o) (stop_of p) e e graphs reported few small h.run k.run
+            step_runs contents start step (run_clocks workers clock left) (run_clocks others clock leaves) h.plan k.plan left.platforms leaves.platforms (stop_of o) (stop_of p) e e graphs reported few small h.run k.run
         by_clock Machine e few small = absurd few
 
     module _ (same : (i : ℕ) → histories_of left.platforms i ≡ histories_of leaves.platforms i) (stop : stop_of o ≡ stop_of p) where
@@ -194,7 +194,7 @@ module _ (clock : ClockChoice) (log : Bool) (contents : Contents) (blocks : List
 
       outputs : (z : Option Fault) → o ≡ z → (h.text ≡ k.text) × (left.misses ≡ leaves.misses)
       outputs None e =
-          texts_agree contents (clocking workers clock left) (clocking others clock leaves) h.plan k.plan log left.platforms leaves.platforms left.misses leaves.misses h.text k.text graphs reported same (h.finished e) (k.finished (sym outcomes ∙ e))
+          texts_agree contents (run_clocks workers clock left) (run_clocks others clock leaves) h.plan k.plan log left.platforms leaves.platforms left.misses leaves.misses h.text k.text graphs reported same (h.finished e) (k.finished (sym outcomes ∙ e))
       outputs (Some f) e =
           let a = h.stopped f e in
           let b = k.stopped f (sym outcomes ∙ e) in
@@ -210,7 +210,7 @@ module _ (clock : ClockChoice) (log : Bool) (contents : Contents) (blocks : List
       }
 
   -- two calls that were refused
-  refused_alike : (o p : Option Fault) (left leaves : Leaves) (r q : Reading) (w v : Writing) (h : Refuses o left w) → Refuses p leaves v → (e : Fault) → p ≡ Some e → status_of_fault e ≡ status_of_fault h.answer →
+  refused_alike : (o p : Option Fault) (left leaves : Leaves) (r q : SourceCall) (w v : SinkCall) (h : Refuses o left w) → Refuses p leaves v → (e : Fault) → p ≡ Some e → status_of_fault e ≡ status_of_fault h.answer →
       EndAlike (record { fault = o; left = left; read = r; wrote = w }) (record { fault = p; left = leaves; read = q; wrote = v })
   refused_alike o p left leaves r q w v h k e is status = record {
     status = ap (λ z. status_of z left.misses) h.is ∙ sym status ∙ sym (ap (λ z. status_of z leaves.misses) is);

@@ -17,7 +17,7 @@ use Rattle.pt_slacks.specs.Rings.{IsRing}
 use Rattle.pt_sensors.specs.declared.recorded_fault.LateRows.{LateRows}
 use Rattle.pt_sensors.specs.declared.recorded_fault.LateRows.TheVariants.{Refused, Taken}
 use Rattle.pt_sensors.specs.Asked.{ReadFails}
-use Rattle.pt_io.specs.Calls.{Contents, Reading, Writing}
+use Rattle.pt_io.specs.Calls.{Contents, SourceCall, SinkCall}
 use Rattle.pt_sensors.specs.Recorded.{SensorFails, SensorLate, SensorUnread}
 use Rattle.pt_tags.specs.declared.tag.Tag.{Tag}
 use Rattle.pt_turn.specs.Platforms.{state_at}
@@ -96,7 +96,7 @@ OfRows Check Fact = ⊥
 OfRows Slacks Fact = ⊥
 
 -- the table, for one call
-pub record CauseTable (status : ℕ) (outcome : Option Fault) (left : Leaves) (order : Option Order) (contents : Contents) (blocks : List Named) (r : Reading) (w : Writing) : Type 0 where
+pub record CauseTable (status : ℕ) (outcome : Option Fault) (left : Leaves) (order : Option Order) (contents : Contents) (blocks : List Named) (r : SourceCall) (w : SinkCall) : Type 0 where
   -- the words are not a valid command line
   pub usage : outcome ≡ Some fault.Usage → order ≡ None
   -- the graph file could not be read, its text has that fault, or those actors are a cycle that takes no time

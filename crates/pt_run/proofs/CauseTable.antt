@@ -19,7 +19,7 @@ use Rattle.pt_slacks.specs.Rings.{IsRing}
 use Rattle.pt_semantics.specs.Offsets.{IsFeasible}
 use Rattle.pt_monitors.specs.Platforms.{missed_by}
 use Rattle.pt_sensors.specs.Asked.{ReadFails}
-use Rattle.pt_io.specs.Calls.{Contents, Reading, Writing}
+use Rattle.pt_io.specs.Calls.{Contents, SourceCall, SinkCall}
 use Rattle.pt_sensors.specs.Places.{of_run}
 use Rattle.pt_sensors.specs.Recorded.{SensorFails, SensorLate, SensorUnread}
 use Rattle.pt_run.specs.declared.fault.Fault.{Fault}
@@ -76,7 +76,7 @@ is_missed : (misses : List Miss) → misses ≢ [] → status_of None misses ≡
 is_missed [] h = absurd (h refl)
 is_missed (m ∷ ms) h = refl
 
-module _ (left : Leaves) (contents : Contents) (blocks : List Named) (r : Reading) (w : Writing) where
+module _ (left : Leaves) (contents : Contents) (blocks : List Named) (r : SourceCall) (w : SinkCall) where
   usage : (order : Option Order) → Ends (Some fault.Usage) left order contents blocks r w → order ≡ None
   usage None k = refl
   usage (Some (over command name)) k = absurd k
@@ -452,7 +452,7 @@ module _ (left : Leaves) (contents : Contents) (blocks : List Named) (r : Readin
   missed_are (Some (audit name log)) k = k.0.0 ∙ sym (ap (flat_map missed_by) k.0.1)
   missed_are (Some (replay name air workers log)) k = k.over.fact.fact.misses refl
 
-pub caused : (status : ℕ) (o : Option Fault) (left : Leaves) (order : Option Order) (contents : Contents) (blocks : List Named) (r : Reading) (w : Writing) → status ≡ status_of o left.misses → Ends o left order contents blocks r w → CauseTable status o left order contents blocks r w
+pub caused : (status : ℕ) (o : Option Fault) (left : Leaves) (order : Option Order) (contents : Contents) (blocks : List Named) (r : SourceCall) (w : SinkCall) → status ≡ status_of o left.misses → Ends o left order contents blocks r w → CauseTable status o left order contents blocks r w
 caused status o left order contents blocks r w is ends = record {
   usage = λ e. usage left contents blocks r w order (by fault.Usage e);
   graph_unread = λ e. graph_unread left contents blocks r w order (by (fault.Read None) e);

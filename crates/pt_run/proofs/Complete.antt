@@ -32,7 +32,7 @@ use Rattle.pt_offsets.specs.Plans.{IsAdmitted, Parts}
 use Rattle.pt_turn.specs.Platforms.{PlatformView}
 use Rattle.pt_rounds.specs.Outcome.{IsOutcome as IsPacedOutcome, IsLongOn}
 use Rattle.pt_sensors.specs.declared.recorded_fault.LateRows.TheVariants.{Refused}
-use Rattle.pt_io.specs.Calls.{Contents, Reading, Writing}
+use Rattle.pt_io.specs.Calls.{Contents, SourceCall, SinkCall}
 use Rattle.pt_sensors.specs.Places.{of_run}
 use Rattle.pt_sensors.specs.Recorded.{AreRows, InTime, RowsOfKind, SensorFails, SensorLate}
 use Rattle.pt_run.proofs.ByFault.{CauseOf, Ends, EndsBy, RunStops}
@@ -42,14 +42,14 @@ use Rattle.pt_run.specs.declared.fault.Fault.{Fault}
 use Rattle.pt_run.specs.declared.fault.Fault.TheVariants as fault
 use Rattle.pt_words.specs.declared.orders.Command.TheVariants.{Run}
 use Rattle.pt_run.specs.Complete.{CanBegin, EndsAsShown, FitsClaims, IsComplete, IsCompleteByAnyClock, StatusIsMeant}
-use Rattle.pt_run.specs.Written.{GraphWith, Leaves, Means, clocking}
+use Rattle.pt_run.specs.Written.{GraphWith, Leaves, Means, run_clocks}
 use Rattle.pt_run.proofs.CauseTable.{never_paced, stopped as stopped_at}
 use Rattle.pt_causality.specs.Ranked.{level_of, rank_of}
 use Rattle.pt_turn.specs.declared.fault.TurnFault.{TurnFault}
 use Rattle.pt_turn.specs.declared.fault.TurnFault.TheVariants as turn
 use Rattle.pt_words.specs.declared.orders.ClockChoice.{ClockChoice}
 use Rattle.pt_words.specs.declared.orders.ClockChoice.TheVariants.{Paced}
-use Rattle.pt_run.specs.Readings.{Clocking}
+use Rattle.pt_run.specs.Readings.{RunClocks}
 use Rattle.pt_run.specs.Statuses.{status_of}
 use Rattle.pt_words.specs.Grammar.{Order}
 
@@ -113,7 +113,7 @@ module _ (contents : Contents) (blocks : List Named) (name : List ℕ) (g : Grap
       none_some row (sym passes ∙ ap (late_row h.bound g.until) rows ∙ h.is_late.first)
 
   -- by whatever clock
-  module _ (left : Leaves) (workers : ℕ) (clock : ClockChoice) (log : Bool) (r : Reading) (w : Writing) (reads : Rose r.before r.now → ⊥) (writes : Rose w.before w.now → ⊥) where
+  module _ (left : Leaves) (workers : ℕ) (clock : ClockChoice) (log : Bool) (r : SourceCall) (w : SinkCall) (reads : Rose r.before r.now → ⊥) (writes : Rose w.before w.now → ⊥) where
     own_cause : (f : Fault) → GraphWith contents blocks name (λ h. CauseOf (Run workers clock log) f left contents h (name ∷ []) r) → EndsAsShown (Some f) left g
     own_cause f (h, file, cause) = on_graph f (subst (λ z. CauseOf (Run workers clock log) f left contents z (name ∷ []) r) (this_graph h file) cause)
       where
@@ -178,7 +178,7 @@ module _ (contents : Contents) (blocks : List Named) (name : List ℕ) (g : Grap
         (meaning plan rows same are))
 
     -- a run that finished
-    module _ (c : Clocking) (plan : Parts) (log : Bool) (platforms : List PlatformView) (misses : List Miss) (text : List ℕ) (paced : c.choice ≡ Paced) (same : plan.graph ≡ g) (done : IsFinishedRun contents c plan log platforms misses text) where
+    module _ (c : RunClocks) (plan : Parts) (log : Bool) (platforms : List PlatformView) (misses : List Miss) (text : List ℕ) (paced : c.choice ≡ Paced) (same : plan.graph ≡ g) (done : IsFinishedRun contents c plan log platforms misses text) where
       pub firings_meant : done.firings ≡ xs
       firings_meant = one_meaning plan done.run.rows done.firings same done.run.sensors done.run.admitted done.meaning
 
@@ -196,7 +196,7 @@ module _ (contents : Contents) (blocks : List Named) (name : List ℕ) (g : Grap
         let within : platform < length g.platforms = subst (λ z. platform < length z) (ap (λ (z : Graph). z.platforms) h.graph) (subst (λ n. platform < n) h.run.fact.kept.all.count (slice_get_within left.platforms platform view.0 view.1)) in
         by_platform status g xs platform is within over
 
-    module _ (status : ℕ) (left : Leaves) (workers : ℕ) (log : Bool) (r : Reading) (w : Writing) (reads : Rose r.before r.now → ⊥) (writes : Rose w.before w.now → ⊥) where
+    module _ (status : ℕ) (left : Leaves) (workers : ℕ) (log : Bool) (r : SourceCall) (w : SinkCall) (reads : Rose r.before r.now → ⊥) (writes : Rose w.before w.now → ⊥) where
       -- by the fault over the graph
       by_cause : (f : Fault) → status ≡ status_of (Some f) left.misses → GraphWith contents blocks name (λ h. CauseOf (Run workers Paced log) f left contents h (name ∷ []) r) → StatusIsMeant status g xs
       by_cause f is (h, file, cause) = on_graph f is (subst (λ z. CauseOf (Run workers Paced log) f left contents z (name ∷ []) r) (this_graph h file) cause)
@@ -223,7 +223,7 @@ module _ (contents : Contents) (blocks : List Named) (name : List ℕ) (g : Grap
           on_graph fault.Write is k = absurd k.1
 
       by_outcome : (o : Option Fault) → status ≡ status_of o left.misses → EndsBy o left (Some (Run workers Paced log, name)) contents blocks r w → StatusIsMeant status g xs
-      by_outcome None is (text, (h, file, (free, run)), appends) = finished (clocking workers Paced left) run.plan log left.platforms left.misses text refl (run.graph ∙ this_graph h file) run.finished status is
+      by_outcome None is (text, (h, file, (free, run)), appends) = finished (run_clocks workers Paced left) run.plan log left.platforms left.misses text refl (run.graph ∙ this_graph h file) run.finished status is
       by_outcome (Some fault.Usage) is k = absurd k
       by_outcome (Some (fault.Graph f)) is k = absurd (no_fault f k.0)
       by_outcome (Some (fault.Read None)) is k = absurd (reads k.0.rose)
@@ -244,10 +244,10 @@ module _ (contents : Contents) (blocks : List Named) (name : List ℕ) (g : Grap
       by_outcome (Some (fault.Long platform)) is k = by_cause (fault.Long platform) is k.0
 
 -- a call that ends by its words
-pub complete : (status : ℕ) (o : Option Fault) (left : Leaves) (order : Option Order) (contents : Contents) (blocks : List Named) (r : Reading) (w : Writing) → status ≡ status_of o left.misses → Ends o left order contents blocks r w → IsComplete status order contents blocks r w
+pub complete : (status : ℕ) (o : Option Fault) (left : Leaves) (order : Option Order) (contents : Contents) (blocks : List Named) (r : SourceCall) (w : SinkCall) → status ≡ status_of o left.misses → Ends o left order contents blocks r w → IsComplete status order contents blocks r w
 complete status o left order contents blocks r w is ends workers log name g xs words can reads writes =
     by_outcome contents blocks name g can.begins xs can.means status left workers log r w reads writes o is (subst (λ z. Ends o left z contents blocks r w) words ends)
 
-pub complete_by_any_clock : (o : Option Fault) (left : Leaves) (order : Option Order) (contents : Contents) (blocks : List Named) (r : Reading) (w : Writing) → Ends o left order contents blocks r w → IsCompleteByAnyClock o left order contents blocks r w
+pub complete_by_any_clock : (o : Option Fault) (left : Leaves) (order : Option Order) (contents : Contents) (blocks : List Named) (r : SourceCall) (w : SinkCall) → Ends o left order contents blocks r w → IsCompleteByAnyClock o left order contents blocks r w
 complete_by_any_clock o left order contents blocks r w ends workers clock log name g words can reads writes =
     own_outcome contents blocks name g can left workers clock log r w reads writes o (subst (λ z. Ends o left z contents blocks r w) words ends)

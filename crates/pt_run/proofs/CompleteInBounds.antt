@@ -15,7 +15,7 @@ use Rattle.pt_semantics.specs.Ranks.{AreRanks}
 use Rattle.pt_semantics.proofs.Lookups.{none_some}
 use Rattle.pt_semantics.specs.Tables.{tables_text}
 use Rattle.pt_paced_laws.specs.Schedule.{IsMissedByMeaning}
-use Rattle.pt_io.specs.Calls.{Contents, Reading, Writing}
+use Rattle.pt_io.specs.Calls.{Contents, SourceCall, SinkCall}
 use Rattle.pt_sensors.specs.Places.{of_run}
 use Rattle.pt_types.specs.declared.air.Air.{Air}
 use Rattle.pt_air.specs.declared.fault.AirFault.{AirFault}
@@ -48,7 +48,7 @@ module _ (contents : Contents) (blocks : List Named) (name air : List ℕ) (g : 
       agrees (air_of g) (contents air) can.bytes (Ok can.recorded) d can.reported (subst (λ reported. IfSome reported (λ bytes. air_of g bytes ≡ Ok can.recorded)) (sym can.reported) can.says)
       (subst (λ (z : Graph). IfSome (contents air) (λ bytes. air_of z bytes ≡ d)) same file)
 
-  module _ (left : Leaves) (log : Bool) (w : Writing) where
+  module _ (left : Leaves) (log : Bool) (w : SinkCall) where
     -- of a replay that ran
     module _ (o : Option Fault) (k : RunWith contents blocks name (OnAir contents air (LeavesReplay log o left w))) where
       same : k.plan.graph ≡ g
@@ -91,7 +91,7 @@ module _ (contents : Contents) (blocks : List Named) (name air : List ℕ) (g : 
           subst (λ (z : Graph). Appends w.written_before w.written_now (tables_text z xs ++ log_if log z left.platforms)) (same None k)
           (subst (λ zs. Appends w.written_before w.written_now (tables_text k.plan.graph zs ++ log_if log k.plan.graph left.platforms)) firings puts.text)
 
-    module _ (status : ℕ) (r : Reading) (reads : Rose r.before r.now → ⊥) (writes : Rose w.before w.now → ⊥) where
+    module _ (status : ℕ) (r : SourceCall) (reads : Rose r.before r.now → ⊥) (writes : Rose w.before w.now → ⊥) where
       stopped : (platform : ℕ) (k : RunWith contents blocks name (OnAir contents air (LeavesReplay log (Some (fault.Long (Some platform))) left w))) → status ≡ 6 → StatusIsMeant status g xs
       stopped platform k is =
           let o : Option Fault = Some (fault.Long (Some platform)) in
@@ -127,6 +127,6 @@ module _ (contents : Contents) (blocks : List Named) (name air : List ℕ) (g : 
       by_outcome (Some fault.ReadLog) is k = absurd (not_true k.0)
       by_outcome (Some (fault.Unlawful v)) is k = absurd (not_true k.0)
 
-pub complete_in_bounds : (status : ℕ) (o : Option Fault) (left : Leaves) (order : Option Order) (contents : Contents) (blocks : List Named) (r : Reading) (w : Writing) → status ≡ status_of o left.misses → Ends o left order contents blocks r w → IsCompleteInBounds status order contents blocks r w
+pub complete_in_bounds : (status : ℕ) (o : Option Fault) (left : Leaves) (order : Option Order) (contents : Contents) (blocks : List Named) (r : SourceCall) (w : SinkCall) → status ≡ status_of o left.misses → Ends o left order contents blocks r w → IsCompleteInBounds status order contents blocks r w
 complete_in_bounds status o left order contents blocks r w is ends workers log name air g xs words can reads writes =
     by_outcome contents blocks name air g xs can left log w status r reads writes o is (subst (λ z. Ends o left z contents blocks r w) words ends)

@@ -16,7 +16,7 @@ use Rattle.pt_offsets.specs.Plans.{IsAdmitted, Parts}
 use Rattle.pt_slacks.specs.Text.{IsSlacked}
 use Rattle.pt_sensors.specs.declared.fault.RowFault.{RowFault}
 use Rattle.pt_sensors.specs.declared.recorded_fault.LateRows.TheVariants.{Refused, Taken}
-use Rattle.pt_io.specs.Calls.{Contents, Reading, Writing}
+use Rattle.pt_io.specs.Calls.{Contents, SourceCall, SinkCall}
 use Rattle.pt_sensors.specs.Places.{of_run}
 use Rattle.pt_sensors.specs.Recorded.{AllPass, AreRows, SensorFails, SensorLate, SensorUnread}
 use Rattle.pt_air.specs.AirOf.{air_of}
@@ -37,21 +37,21 @@ use Rattle.pt_rounds.specs.Outcome.{IsOutcome as IsPacedOutcome}
 use Rattle.pt_run.specs.Runs.{IsOutcomeBy, IsOutcomeOver, log_if}
 use Rattle.pt_words.specs.Grammar.{Order, over, make, migrate, audit, replay}
 use Rattle.pt_run.specs.Reporting.{paced_run}
-use Rattle.pt_run.specs.Written.{FitOnAll, HasNothing, IsChecked, IsRun, IsTables, Leaves, clocking, stop_of}
+use Rattle.pt_run.specs.Written.{FitOnAll, HasNothing, IsChecked, IsRun, IsTables, Leaves, run_clocks, stop_of}
 use Rattle.pt_run.proofs.ByFault.{Ends, EndsAudit, EndsBy, EndsMade, EndsMigrated, EndsReplay, Writes}
 use Rattle.pt_run.proofs.Finished.{missed_as_meant}
 use Rattle.pt_run.proofs.Stages.{by_admission, by_cycles, by_file, by_offsets, by_puts, by_rows, not_true, with_fault}
 
 -- a run over a plan of the graph in the file with this name
-module _ (contents : Contents) (blocks : List Named) (name : List ℕ) (workers : ℕ) (clock : ClockChoice) (log : Bool) (left : Leaves) (r : Reading) (w : Writing) (plan : Parts) (rows : ℕ → List Row) (admitted : IsAdmitted plan) (are : AreRows contents plan.graph rows) (in_time : AllPass Refused plan.graph rows)
+module _ (contents : Contents) (blocks : List Named) (name : List ℕ) (workers : ℕ) (clock : ClockChoice) (log : Bool) (left : Leaves) (r : SourceCall) (w : SinkCall) (plan : Parts) (rows : ℕ → List Row) (admitted : IsAdmitted plan) (are : AreRows contents plan.graph rows) (in_time : AllPass Refused plan.graph rows)
     (file : IfSome (contents name) (λ bytes. graph_of blocks bytes ≡ Ok plan.graph)) where
   abbrev By : Option Fault → Type 0
   By o = HasRunBy workers clock log (record { fault = o; left = left; read = r; wrote = w }) plan (of_run plan.graph rows)
 
-  outcome_by : (o : Option Fault) → By o → IsOutcomeBy (clocking workers clock left) plan (of_run plan.graph rows) left.platforms (stop_of o)
+  outcome_by : (o : Option Fault) → By o → IsOutcomeBy (run_clocks workers clock left) plan (of_run plan.graph rows) left.platforms (stop_of o)
   outcome_by o h = record { kept = h.leaves.kept; readings = h.leaves.readings; paced = h.paced }
 
-  outcome_over : (o : Option Fault) → By o → IsOutcomeOver contents (clocking workers clock left) plan left.platforms (stop_of o)
+  outcome_over : (o : Option Fault) → By o → IsOutcomeOver contents (run_clocks workers clock left) plan left.platforms (stop_of o)
   outcome_over o h = record { admitted = admitted; rows = rows; sensors = are; in_time = in_time; fact = outcome_by o h }
 
   finished : (o : Option Fault) (h : By o) → stop_of o ≡ None → (misses : List Miss) → misses ≡ flat_map missed_by left.platforms → (Put : List ℕ → Type 0) → (p : PutsMeaning plan (of_run plan.graph rows) log left.platforms Put)
@@ -60,7 +60,7 @@ module _ (contents : Contents) (blocks : List Named) (name : List ℕ) (workers 
     plan = plan;
     graph = refl;
     finished = record {
-      run = record { admitted = admitted; rows = rows; sensors = are; in_time = in_time; fact = subst (IsOutcomeBy (clocking workers clock left) plan (of_run plan.graph rows) left.platforms) none (outcome_by o h) };
+      run = record { admitted = admitted; rows = rows; sensors = are; in_time = in_time; fact = subst (IsOutcomeBy (run_clocks workers clock left) plan (of_run plan.graph rows) left.platforms) none (outcome_by o h) };
       fit = p.fit;
       firings = p.firings;
       meaning = p.meaning;

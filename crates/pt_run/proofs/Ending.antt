@@ -23,7 +23,7 @@ use Rattle.pt_sensors.specs.declared.recorded_fault.LateRows.TheVariants.{Taken}
 use Rattle.pt_sensors.specs.declared.recorded_fault.RecordedFault.{RecordedFault}
 use Rattle.pt_sensors.specs.declared.recorded_fault.RecordedFault.TheVariants as rows
 use Rattle.pt_sensors.specs.Asked.{ReadFails}
-use Rattle.pt_io.specs.Calls.{Contents, Reading, Writing}
+use Rattle.pt_io.specs.Calls.{Contents, SourceCall, SinkCall}
 use Rattle.pt_sensors.specs.Recorded.{AreRows, CauseOfRows, SensorUnread}
 use Rattle.pt_io.specs.Clocks.{ClockView}
 use Rattle.pt_run.specs.declared.fault.Fault.{Fault}
@@ -40,7 +40,7 @@ pub has_nothing : (o : Ending) (before now : List ClockView) → left_by o ≡ l
 has_nothing o before now e = (ap (λ (l : Leaves). l.misses) e, ap (λ (l : Leaves). l.platforms) e)
 
 -- a text that is put, or a fault that is reported
-module _ (o : Ending) (r : Reading) (w : Writing) where
+module _ (o : Ending) (r : SourceCall) (w : SinkCall) where
   -- the answer of the call
   abbrev answer : Answer
   answer = record { fault = o.fault; left = left_by o; read = r; wrote = w }
@@ -63,7 +63,7 @@ reported_due a f reported Due nothing still is report refuses = ⊎_elim (λ (sa
 
 -- The graph file.
 
-module _ (contents : Contents) (blocks : List Named) (name : List ℕ) (r : Reading) where
+module _ (contents : Contents) (blocks : List Named) (name : List ℕ) (r : SourceCall) where
   -- it could not be read
   pub graph_unread : ReadFails [] name r → RefusesAsDue (fault.Read None) r (λ a. AfterFile contents blocks name a (λ g. ⊥))
   graph_unread failed a is out = inr (inl (out, subst (ReadFails [] name) (sym is) failed))
@@ -96,54 +96,54 @@ module _ (contents : Contents) (blocks : List Named) (name : List ℕ) (r : Read
 -- What was made, as is due.
 
 -- there was no memory
-pub memory_due : {X : Type 0} (text : X → List ℕ) (r : Reading) (Due : Answer → Type 0) → AnswersAsDue text (Err fault.Memory) r Due
+pub memory_due : {X : Type 0} (text : X → List ℕ) (r : SourceCall) (Due : Answer → Type 0) → AnswersAsDue text (Err fault.Memory) r Due
 memory_due text r Due a is out = inl out
 
 -- a text is put
-pub text_due : {X : Type 0} (text : X → List ℕ) (x : X) (r : Reading) (Text : List ℕ → Type 0) → Text (text x) → AnswersAsDue text (Ok x) r (λ a. OnlyPuts a Text)
+pub text_due : {X : Type 0} (text : X → List ℕ) (x : X) (r : SourceCall) (Text : List ℕ → Type 0) → Text (text x) → AnswersAsDue text (Ok x) r (λ a. OnlyPuts a Text)
 text_due text x r Text it a is (none, puts) = inr (none, ⊎_elim (λ all. inl (all.0, all.1, subst Text (sym all.2) it, all.3)) (λ part. inr (part.0, part.1, part.2, subst Text (sym part.3) it, part.4)) puts)
 
 -- the graph has levels, so no cycle takes no time
-pub free_due : {X : Type 0} (text : X → List ℕ) (made : Result X Fault) (g : Graph) (level : ℕ → ℕ) (r : Reading) (Due : Answer → Type 0) → AreLevels g level → AnswersAsDue text made r Due → AnswersAsDue text made r (λ a. AfterCycles g a (Due a))
+pub free_due : {X : Type 0} (text : X → List ℕ) (made : Result X Fault) (g : Graph) (level : ℕ → ℕ) (r : SourceCall) (Due : Answer → Type 0) → AreLevels g level → AnswersAsDue text made r Due → AnswersAsDue text made r (λ a. AfterCycles g a (Due a))
 free_due text made g level r Due levels due a is h = ⊎_elim (λ (out : RefusedWith fault.Memory a). inl out) (λ (k : Due a). inr (inr (levels_forbid_cycles g level levels, k))) (due a is h)
 
 -- a cycle takes no time
-pub cycle_due : {X : Type 0} (text : X → List ℕ) (f : CycleFault) (g : Graph) (r : Reading) (Due : Answer → Type 0) → CauseOfCycle f g → AnswersAsDue text (Err (fault_of_cycle f)) r (λ a. AfterCycles g a (Due a))
+pub cycle_due : {X : Type 0} (text : X → List ℕ) (f : CycleFault) (g : Graph) (r : SourceCall) (Due : Answer → Type 0) → CauseOfCycle f g → AnswersAsDue text (Err (fault_of_cycle f)) r (λ a. AfterCycles g a (Due a))
 cycle_due text cycle.Memory g r Due k a is out = inl out
 cycle_due text (cycle.Cycle actors) g r Due k a is out = inr (inl (actors, out, k))
 
 -- a sender can't send in time
-pub offset_due : {X : Type 0} (text : X → List ℕ) (f : OffsetFault) (g : Graph) (r : Reading) (Due : Answer → Type 0) → CauseOfOffset f g → AnswersAsDue text (Err (fault_of_offset f)) r (λ a. AfterOffsets g a (Due a))
+pub offset_due : {X : Type 0} (text : X → List ℕ) (f : OffsetFault) (g : Graph) (r : SourceCall) (Due : Answer → Type 0) → CauseOfOffset f g → AnswersAsDue text (Err (fault_of_offset f)) r (λ a. AfterOffsets g a (Due a))
 offset_due text offset.Memory g r Due k a is out = inl out
 offset_due text (offset.Infeasible send o slack) g r Due k a is out = inr (inl (send, o, slack, out, k))
 
 -- no slacks do
-pub ring_due : {X : Type 0} (text : X → List ℕ) (f : SlackFault) (g : Graph) (r : Reading) → CauseOfSlacks f g → AnswersAsDue text (Err (fault_of_slacks f)) r (IsSlackedBy g)
+pub ring_due : {X : Type 0} (text : X → List ℕ) (f : SlackFault) (g : Graph) (r : SourceCall) → CauseOfSlacks f g → AnswersAsDue text (Err (fault_of_slacks f)) r (IsSlackedBy g)
 ring_due text slack.Memory g r k a is out = inl out
 ring_due text (slack.Ring sends gain) g r k a is out = inr (inl (sends, gain, out, k))
 
 -- a sensor has no rows
-pub rows_due : {X : Type 0} (text : X → List ℕ) (late : LateRows) (f : RecordedFault) (contents : Contents) (g : Graph) (r : Reading) (Then : Answer → (ℕ → List Row) → Type 0) → CauseOfRows late f contents g [] r → AnswersAsDue text (Err (fault_of_rows f)) r (λ a. AfterRows late contents g [] a (Then a))
+pub rows_due : {X : Type 0} (text : X → List ℕ) (late : LateRows) (f : RecordedFault) (contents : Contents) (g : Graph) (r : SourceCall) (Then : Answer → (ℕ → List Row) → Type 0) → CauseOfRows late f contents g [] r → AnswersAsDue text (Err (fault_of_rows f)) r (λ a. AfterRows late contents g [] a (Then a))
 rows_due text late rows.Memory contents g r Then k a is out = inl out
 rows_due text late (rows.Read actor) contents g r Then k a is out = inr (inl (actor, out, subst (SensorUnread late contents g actor []) (sym is) k))
 rows_due text late (rows.Sensor actor f) contents g r Then k a is out = inr (inr (inl (actor, f, out, k)))
 rows_due text late (rows.Late actor row seen limit) contents g r Then k a is out = inr (inr (inr (inl (actor, row, seen, limit, out, k.0, k.1))))
 
 -- the rows were read
-pub read_due : {X : Type 0} (text : X → List ℕ) (made : Result X Fault) (contents : Contents) (g : Graph) (r : Reading) (all : ℕ → List Row) → AreRows contents g all → AnswersAsDue text made r (IsMeantBy g all) → AnswersAsDue text made r (λ a. AfterRows Taken contents g [] a (λ rows. IsMeantBy g rows a))
+pub read_due : {X : Type 0} (text : X → List ℕ) (made : Result X Fault) (contents : Contents) (g : Graph) (r : SourceCall) (all : ℕ → List Row) → AreRows contents g all → AnswersAsDue text made r (IsMeantBy g all) → AnswersAsDue text made r (λ a. AfterRows Taken contents g [] a (λ rows. IsMeantBy g rows a))
 read_due text made contents g r all are due a is h = ⊎_elim (λ (out : RefusedWith fault.Memory a). inl out) (λ (k : IsMeantBy g all a). inr (inr (inr (inr (all, are, (λ x. tt), k))))) (due a is h)
 
 -- the meaning is too long, or its tables are put
-pub long_due : {X : Type 0} (text : X → List ℕ) (g : Graph) (all : ℕ → List Row) (r : Reading) → IsTooLongForAll g all → AnswersAsDue text (Err (fault.Long None)) r (IsMeantBy g all)
+pub long_due : {X : Type 0} (text : X → List ℕ) (g : Graph) (all : ℕ → List Row) (r : SourceCall) → IsTooLongForAll g all → AnswersAsDue text (Err (fault.Long None)) r (IsMeantBy g all)
 long_due text g all r long a is out = inr (inl (out, long))
 
-pub meant_due : {X : Type 0} (text : X → List ℕ) (x : X) (g : Graph) (all : ℕ → List Row) (r : Reading) → IsTables g all (FitOnAll g) (text x) → AnswersAsDue text (Ok x) r (IsMeantBy g all)
+pub meant_due : {X : Type 0} (text : X → List ℕ) (x : X) (g : Graph) (all : ℕ → List Row) (r : SourceCall) → IsTables g all (FitOnAll g) (text x) → AnswersAsDue text (Ok x) r (IsMeantBy g all)
 meant_due text x g all r it a is h = ⊎_elim (λ (out : RefusedWith fault.Memory a). inl out) (λ (k : OnlyPuts a (IsTables g all (FitOnAll g))). inr (inr k)) (text_due text x r (IsTables g all (FitOnAll g)) it a is h)
 
 -- the offsets and margins are put
-pub checked_due : {X : Type 0} (text : X → List ℕ) (x : X) (g : Graph) (r : Reading) → IsChecked g (text x) → AnswersAsDue text (Ok x) r (λ a. AfterOffsets g a (OnlyPuts a (IsChecked g)))
+pub checked_due : {X : Type 0} (text : X → List ℕ) (x : X) (g : Graph) (r : SourceCall) → IsChecked g (text x) → AnswersAsDue text (Ok x) r (λ a. AfterOffsets g a (OnlyPuts a (IsChecked g)))
 checked_due text x g r it a is h = ⊎_elim (λ (out : RefusedWith fault.Memory a). inl out) (λ (k : OnlyPuts a (IsChecked g)). inr (inr (it.feasible, k))) (text_due text x r (IsChecked g) it a is h)
 
 -- the least slacks are put
-pub slacked_due : {X : Type 0} (text : X → List ℕ) (x : X) (g : Graph) (r : Reading) → IsSlacked g (text x) → AnswersAsDue text (Ok x) r (IsSlackedBy g)
+pub slacked_due : {X : Type 0} (text : X → List ℕ) (x : X) (g : Graph) (r : SourceCall) → IsSlacked g (text x) → AnswersAsDue text (Ok x) r (IsSlackedBy g)
 slacked_due text x g r it a is h = ⊎_elim (λ (out : RefusedWith fault.Memory a). inl out) (λ (k : OnlyPuts a (IsSlacked g)). inr (inr k)) (text_due text x r (IsSlacked g) it a is h)

@@ -20,14 +20,14 @@ use Rattle.pt_semantics.proofs.Lookups.{none_some}
 use Rattle.pt_turn.specs.Platforms.{PlatformView}
 use Rattle.pt_sensors.specs.declared.recorded_fault.LateRows.{LateRows}
 use Rattle.pt_sensors.specs.declared.recorded_fault.LateRows.TheVariants.{Refused, Taken}
-use Rattle.pt_io.specs.Calls.{Contents, Reading, Writing}
+use Rattle.pt_io.specs.Calls.{Contents, SourceCall, SinkCall}
 use Rattle.pt_sensors.specs.Recorded.{AreRows, SensorFails, SensorLate}
 use Rattle.pt_run.specs.RunsAgreeing.{ReportsSensors}
 use Rattle.pt_turn.specs.declared.fault.TurnFault.{TurnFault}
 use Rattle.pt_turn.specs.declared.fault.TurnFault.TheVariants as turn
 use Rattle.pt_words.specs.declared.orders.ClockChoice.{ClockChoice}
 use Rattle.pt_words.specs.declared.orders.ClockChoice.TheVariants.{Paced}
-use Rattle.pt_run.specs.Readings.{Clocking}
+use Rattle.pt_run.specs.Readings.{RunClocks}
 use Rattle.pt_run.specs.Runs.{IsOutcomeOver}
 use Rattle.pt_run.specs.declared.fault.Fault.{Fault}
 use Rattle.pt_run.specs.declared.fault.Fault.TheVariants as fault
@@ -38,7 +38,7 @@ use Rattle.pt_run.proofs.CauseFields.{AsksFeasible, OfRows}
 use Rattle.pt_run.proofs.ByCause.{CanAudit, ComesByCause, Defines, WantsGraph, WantsMemory, WantsRows, refused_as}
 use Rattle.pt_words.specs.Grammar.{Order, audit, make, migrate, over, replay}
 use Rattle.pt_run.specs.Reporting.{paced_run}
-use Rattle.pt_run.specs.Written.{GraphWith, Leaves, clocking}
+use Rattle.pt_run.specs.Written.{GraphWith, Leaves, run_clocks}
 use Rattle.pt_run.proofs.ByFault.{CauseOf, CauseOfCheck, CauseOfMeaning, CauseOfNoSlacks, CauseOfRun, CauseOfText, Ends, EndsBy, EndsMigrated, IsMeant, Writes}
 use Rattle.pt_run.proofs.Audited.{Audited, audited, finds_lawful, finds_unlawful, finds_verdict}
 use Rattle.pt_run.proofs.AirFound.{finds_air}
@@ -113,8 +113,8 @@ taken_refused : Taken ≡ Refused → ⊥
 taken_refused e = cc
 
 -- a fault over a graph
-module _ (left : Leaves) (contents : Contents) (g : Graph) (others : List (List ℕ)) (r : Reading) where
-  run_kept : (workers : ℕ) (clock : ClockChoice) (log : Bool) (c : Clocking) (plan : Parts) (platforms : List PlatformView) (stop : Option (ℕ × TurnFault)) (outcome : Option Fault) → NoFreeCycle g → plan.graph ≡ g → IsOutcomeOver contents c plan platforms stop → Answer (Run workers clock log) contents g outcome
+module _ (left : Leaves) (contents : Contents) (g : Graph) (others : List (List ℕ)) (r : SourceCall) where
+  run_kept : (workers : ℕ) (clock : ClockChoice) (log : Bool) (c : RunClocks) (plan : Parts) (platforms : List PlatformView) (stop : Option (ℕ × TurnFault)) (outcome : Option Fault) → NoFreeCycle g → plan.graph ≡ g → IsOutcomeOver contents c plan platforms stop → Answer (Run workers clock log) contents g outcome
   run_kept workers clock log c plan platforms stop outcome free same run =
       whole (free, λ e. subst IsFeasible same run.admitted.feasible) (λ e. subst (λ z. AllHave Refused contents z) same (run.rows, run.sensors, run.in_time)) (λ e. absurd (run_meaning workers clock log e)) (λ e. absurd (run_slacks workers clock log e))
 
@@ -123,9 +123,9 @@ module _ (left : Leaves) (contents : Contents) (g : Graph) (others : List (List 
   by_run workers clock log (fault.Read (Some actor)) free h = unread actor refl (free, λ e. h.0) tt
   by_run workers clock log (fault.Sensor actor f) free h = wrong actor f refl (free, λ e. h.0) h.1
   by_run workers clock log (fault.LateRow actor row seen limit) free h = tardy actor row seen limit refl (free, λ e. h.0) (refl, h.1)
-  by_run workers clock log (fault.Long (Some platform)) free h = run_kept workers clock log (clocking workers clock left) h.plan left.platforms (Some (platform, turn.Long)) (Some (fault.Long (Some platform))) free h.graph h.run
+  by_run workers clock log (fault.Long (Some platform)) free h = run_kept workers clock log (run_clocks workers clock left) h.plan left.platforms (Some (platform, turn.Long)) (Some (fault.Long (Some platform))) free h.graph h.run
   by_run workers clock log (fault.LateMessage platform actor tag reading limit) free h =
-      run_kept workers clock log (clocking workers clock left) h.plan left.platforms (Some (platform, turn.Late actor tag reading limit)) (Some (fault.LateMessage platform actor tag reading limit)) free h.graph h.run
+      run_kept workers clock log (run_clocks workers clock left) h.plan left.platforms (Some (platform, turn.Late actor tag reading limit)) (Some (fault.LateMessage platform actor tag reading limit)) free h.graph h.run
   by_run workers clock log f free h = absurd h
 
   by_check : (f : Fault) → NoFreeCycle g → CauseOfCheck f g → Answer Check contents g (Some f)
@@ -154,13 +154,13 @@ module _ (left : Leaves) (contents : Contents) (g : Graph) (others : List (List 
   by_cause command f h = by_text command f h.0 h.1
 
   wrote : (command : Command) (l : Leaves) (text : List ℕ) (outcome : Option Fault) → IsPut outcome → Writes command contents g l text → Answer command contents g outcome
-  wrote (Run workers clock log) l text outcome put (free, run) = run_kept workers clock log (clocking workers clock l) run.plan l.platforms None outcome free run.graph run.finished.run
+  wrote (Run workers clock log) l text outcome put (free, run) = run_kept workers clock log (run_clocks workers clock l) run.plan l.platforms None outcome free run.graph run.finished.run
   wrote Check l text outcome put (free, (none, checked)) = whole (free, λ e. checked.feasible) (λ e. absurd e) (λ e. absurd (check_meaning e)) (λ e. absurd (check_slacks e))
   wrote Meaning l text outcome put (free, (none, meant)) = whole (free, λ e. absurd e) (λ e. (meant.rows, meant.sensors, λ a. tt)) (λ e. (text, meant)) (λ e. absurd (meaning_slacks e))
   wrote Slacks l text outcome put (free, (none, slacked)) = whole (free, λ e. absurd e) (λ e. absurd e) (λ e. absurd (slacks_meaning e)) (λ e. ((slacked.slack, slacked.least.admits), put))
 
 -- over a graph file with known content
-module _ (contents : Contents) (blocks : List Named) (name bytes : List ℕ) (reported : contents name ≡ Some bytes) (left : Leaves) (r : Reading) (w : Writing) where
+module _ (contents : Contents) (blocks : List Named) (name bytes : List ℕ) (reported : contents name ≡ Some bytes) (left : Leaves) (r : SourceCall) (w : SinkCall) where
   defines : (d : Result Graph GraphFault) → graph_of blocks bytes ≡ d → IfSome (contents name) (λ bytes. graph_of blocks bytes ≡ d)
   defines d is = subst (λ z. IfSome z (λ bytes. graph_of blocks bytes ≡ d)) (sym reported) is
 
@@ -248,7 +248,7 @@ same_paced : (n : List ℕ) (command : Command) (name : List ℕ) → Some (over
 same_paced n command name e = (cc, cc)
 
 -- a call that is refused as this command on this file ends as that command does, or as an audit or a replay
-refused_by : (o : Option Fault) (left : Leaves) (order : Option Order) (contents : Contents) (blocks : List Named) (r : Reading) (w : Writing) (command : Command) (name : List ℕ) → refused_as order ≡ Some (over command name) → Ends o left order contents blocks r w →
+refused_by : (o : Option Fault) (left : Leaves) (order : Option Order) (contents : Contents) (blocks : List Named) (r : SourceCall) (w : SinkCall) (command : Command) (name : List ℕ) → refused_as order ≡ Some (over command name) → Ends o left order contents blocks r w →
     EndsBy o left (Some (command, name)) contents blocks r w ⊎ ((command ≡ paced_run) × PastRows left name contents blocks r w o)
 refused_by o left None contents blocks r w command name e ends = absurd (none_some (over command name) e)
 refused_by o left (Some (over c n)) contents blocks r w command name e ends = inl (subst (λ z. Ends o left z contents blocks r w) e ends)
@@ -264,7 +264,7 @@ refused_by o left (Some (audit n log)) contents blocks r w command name e ends =
 refused_by o left (Some (replay n air workers log)) contents blocks r w command name e ends = let (is, names) = same_paced n command name e in inr (is, subst (λ z. PastRows left z contents blocks r w o) names (replay_past left n contents blocks r w air log o ends))
 
 -- the words are no command
-usage : (left : Leaves) (contents : Contents) (blocks : List Named) (r : Reading) (w : Writing) (outcome : Option Fault) → Ends outcome left None contents blocks r w → (outcome ≡ Some fault.Usage) ⊎ WantsMemory outcome
+usage : (left : Leaves) (contents : Contents) (blocks : List Named) (r : SourceCall) (w : SinkCall) (outcome : Option Fault) → Ends outcome left None contents blocks r w → (outcome ≡ Some fault.Usage) ⊎ WantsMemory outcome
 usage left contents blocks r w (Some fault.Memory) k = inr refl
 usage left contents blocks r w None k = inl k.0
 usage left contents blocks r w (Some f) k = inl k.0
@@ -385,7 +385,7 @@ module _ (contents : Contents) (g : Graph) (outcome : Option Fault) where
       long_meaning rows are too_long (long is fit h) = inl is
       long_meaning rows are too_long (whole fit had meant slacked) = let (text, all) = meant refl in absurd (meant_long contents g text rows reported are all too_long)
 
-pub exact : (o : Option Fault) (left : Leaves) (order : Option Order) (contents : Contents) (blocks : List Named) (r : Reading) (w : Writing) → Ends o left order contents blocks r w → ComesByCause o order contents blocks
+pub exact : (o : Option Fault) (left : Leaves) (order : Option Order) (contents : Contents) (blocks : List Named) (r : SourceCall) (w : SinkCall) → Ends o left order contents blocks r w → ComesByCause o order contents blocks
 exact o left order contents blocks r w ends = record {
   usage = λ none. usage left contents blocks r w o (subst (λ z. Ends o left z contents blocks r w) none ends);
   graph = λ command f d. no_graph command f d;

@@ -20,13 +20,13 @@ use Rattle.pt_tables.proofs.InOrder.{in_order as lines_in_order}
 use Rattle.pt_monitors.specs.Platforms.{missed_by}
 use Rattle.pt_confluence.specs.Gathered.{AreTables, HaveFinished}
 use Rattle.pt_rounds.specs.Outcome.{IsOutcome as IsPacedOutcome}
-use Rattle.pt_io.specs.Calls.{Contents, Reading}
+use Rattle.pt_io.specs.Calls.{Contents, SourceCall}
 use Rattle.pt_sensors.specs.Places.{of_run}
 use Rattle.pt_offsets.specs.Plans.{IsAdmitted, Parts}
 use Rattle.pt_turn.specs.declared.fault.TurnFault.{TurnFault}
 use Rattle.pt_run.specs.declared.outputs.Outputs.{Outputs}
 use Rattle.pt_run.specs.declared.outcome.Stopped.{Stopped}
-use Rattle.pt_run.specs.Readings.{Clocking}
+use Rattle.pt_run.specs.Readings.{RunClocks}
 use Rattle.pt_run.specs.Runs.{AreHeldIf, CauseOfStop, HasOpened, IsOutcomeOver, IsKept, IsOutput, HasOutputs, IsStop, IsText, AreOutputs, IsOutcomeBy, log_if, paged_log}
 use Rattle.pt_run.proofs.Missed.{missed_in}
 
@@ -68,7 +68,7 @@ missed_as_meant plan rows platforms misses firings admitted have missed meaning 
     ((λ mem. meant.0 (kept.0 mem)), (λ missed. kept.1 (meant.1 missed)))
 
 -- a run that finished, with its outputs
-has_outputs : (contents : Contents) (c : Clocking) (plan : Parts) (log : Bool) (platforms : List PlatformView) (ran : Outputs) (run : IsOutcomeOver contents c plan platforms None) → FitRows plan.graph (of_run plan.graph run.rows) → AreOutputs plan log platforms ran → HasOutputs contents c plan log ran
+has_outputs : (contents : Contents) (c : RunClocks) (plan : Parts) (log : Bool) (platforms : List PlatformView) (ran : Outputs) (run : IsOutcomeOver contents c plan platforms None) → FitRows plan.graph (of_run plan.graph run.rows) → AreOutputs plan log platforms ran → HasOutputs contents c plan log ran
 has_outputs contents c plan log platforms ran run fit reported =
     let rows : ℕ → List Row = of_run plan.graph run.rows in
     let text = reported.text rows (kept_finished plan rows platforms fit run.fact.kept) in (
@@ -86,7 +86,7 @@ has_outputs contents c plan log platforms ran run fit reported =
     )
 
 -- a run over the rows of the sensors' files, by the outcome of the platforms that were opened with them
-pub run_of_outcome : (contents : Contents) (c : Clocking) (plan : Parts) (log : Bool) (opened platforms : List PlatformView) (fault : Option (ℕ × TurnFault)) (result : Result Outputs Stopped) (r : Reading) →
+pub run_of_outcome : (contents : Contents) (c : RunClocks) (plan : Parts) (log : Bool) (opened platforms : List PlatformView) (fault : Option (ℕ × TurnFault)) (result : Result Outputs Stopped) (r : SourceCall) →
     HasOpened contents plan opened → ((other : Parts) (rows : ℕ → List Row) → AreReady other rows opened → IsOutcomeBy c other rows platforms fault) →
     IfOk result (IsOutput fault plan log platforms) → IfErr result (IsStop None fault platforms) → IfOk result (HasOutputs contents c plan log) × IfErr result (λ s. CauseOfStop s contents c plan r)
 run_of_outcome contents c plan log opened platforms fault result r has leaves output stopped = (by_output result output, by_stop fault refl result stopped)

@@ -42,7 +42,7 @@ use Rattle.pt_run.specs.Headline.{AtEnd, ByReadings, EndAs, Headline, LeavesTurn
 use Rattle.pt_rounds.specs.Outcome.{IsOutcome as IsPacedOutcome}
 use Rattle.pt_run.specs.Runs.{IsKept}
 use Rattle.pt_words.specs.Grammar.{Order, over}
-use Rattle.pt_run.specs.Written.{clocking, has_run, stop_of}
+use Rattle.pt_run.specs.Written.{run_clocks, has_run, stop_of}
 use Rattle.pt_run.proofs.Stages.{by_admission, by_file, with_fault}
 
 -- Platforms at the end, from all that contracts see of them.
@@ -128,7 +128,7 @@ both b e h = cc
 
 module _ (contents : Contents) (blocks : List Named) (name : List ℕ) (workers : ℕ) (clock : ClockChoice) (log : Bool) (a : Answer) where
   abbrev By : ByReadings
-  By = HasReadings (clocking workers clock a.left) a.left.platforms
+  By = HasReadings (run_clocks workers clock a.left) a.left.platforms
 
   abbrev Holds : Option Fault → Type 0
   Holds o = Headline (inputs_of contents blocks) By name clock log o (ended a.left.platforms) a.left.misses a.wrote

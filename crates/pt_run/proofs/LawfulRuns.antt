@@ -14,7 +14,7 @@ use Rattle.pt_tables.specs.Log.{log_text}
 use Rattle.pt_tables.specs.Platforms.{histories}
 use Rattle.pt_confluence.specs.Gathered.{HaveFinished}
 use Rattle.pt_sensors.specs.declared.recorded_fault.LateRows.TheVariants.{Refused}
-use Rattle.pt_io.specs.Calls.{Contents, Writing}
+use Rattle.pt_io.specs.Calls.{Contents, SinkCall}
 use Rattle.pt_sensors.specs.Places.{of_run}
 use Rattle.pt_sensors.specs.Recorded.{AllPass, AreRows}
 use Rattle.pt_audit.proofs.Printing.{printed_is_lawful}
@@ -40,7 +40,7 @@ finished_is_lawful contents c plan platforms misses text done short =
     done.run.fact.kept.legal (done.held refl) done.meaning done.written short
 
 -- what was put, from finished platforms
-put_lawful : (left : Leaves) (plan : Parts) (rows : ℕ → List Row) (w : Writing) → IsAdmitted plan → (puts : PutsMeaning plan rows true left.platforms (Appends w.written_before w.written_now)) → HaveFinished plan rows left.platforms →
+put_lawful : (left : Leaves) (plan : Parts) (rows : ℕ → List Row) (w : SinkCall) → IsAdmitted plan → (puts : PutsMeaning plan rows true left.platforms (Appends w.written_before w.written_now)) → HaveFinished plan rows left.platforms →
     ((i : ℕ) (v : PlatformView) → slice_get left.platforms i ≡ Some v → IsLegal plan.graph (level_of plan.ranks) i rows v.turns (state_at v)) → WritesLawfulLog w plan rows
 put_lawful left plan rows w admitted puts finished legal = (
   tables_text plan.graph puts.firings ++ log_text plan.graph (histories left.platforms),

@@ -1,9 +1,9 @@
 -- Runs over made inputs.
-use Rattle.std.proofs.Common.{◌≡◌, ◌≢◌, ℕ, suc, ◌+◌, ◌<◌, ◌≤◌, List, [], ◌∷◌, get_or, Option, None, Some, ℤ, pos, ◌-ℤ◌, ◌+ℤ◌, ◌<ℤ◌, length, option_map, slice_get, arith, append-nil, refl, sym, ap, subst, ◌∙◌, inl, ⊎_elim, inr}
-use Rattle.std.specs.Prelude.{MatchOption, String, flat_map, ⊤}
+use Rattle.std.proofs.Common.{◌≡◌, ◌≢◌, ℕ, suc, ◌+◌, ◌<◌, ◌≤◌, List, [], ◌∷◌, Option, None, Some, ℤ, pos, ◌-ℤ◌, ◌+ℤ◌, ◌<ℤ◌, length, option_map, slice_get, arith, append-nil, refl, sym, ap, subst, ◌∙◌, inl, ⊎_elim, inr}
+use Rattle.std.specs.Prelude.{String, flat_map, ⊤}
 use Rattle.std.specs.declared.alloc.Global.{Global}
 use Rattle.std.proofs.lemmas.Int.{ints}
-use Rattle.std.proofs.lemmas.Option.{slice_get-get_or, slice_get_within}
+use Rattle.std.proofs.lemmas.Option.{slice_get_within}
 use Rattle.pt_types.specs.declared.graph.Graph.{Graph}
 use Rattle.pt_types.specs.declared.graph.Unit.{Unit}
 use Rattle.pt_types.specs.declared.rows.Row.{Row}
@@ -16,14 +16,12 @@ use Rattle.pt_semantics.specs.Platform.{State}
 use Rattle.pt_semantics.specs.Ranks.{AreLevels, sum_along}
 use Rattle.pt_semantics.specs.Rounds.{IsWholeRun}
 use Rattle.pt_semantics.specs.Rows.{FitRows}
-use Rattle.pt_semantics.proofs.Lookups.{same_some}
-use Rattle.pt_semantics.specs.Visits.{Together}
+use Rattle.pt_semantics.specs.Visits.{RunState}
 use Rattle.pt_causality.specs.Ranked.{level_of, rank_of}
 use Rattle.pt_offsets.specs.Plans.{IsAdmitted, Parts}
 use Rattle.pt_offsets.specs.Timings.{offset_of}
 use Rattle.pt_turn.specs.Platforms.{PlatformView, state_at}
 use Rattle.pt_turn.specs.declared.fault.TurnFault.{TurnFault}
-use Rattle.pt_turn.specs.declared.fault.TurnFault.TheVariants.{Long}
 use Rattle.pt_turn.specs.Running.{Shows, ShowsLong}
 use Rattle.pt_monitors.specs.Platforms.{missed_by}
 use Rattle.pt_monitors.proofs.Members.{in_flat_map}
@@ -48,7 +46,7 @@ use Rattle.pt_run.specs.declared.outcome.Ending.{Ending}
 use Rattle.pt_run.specs.Texts.{left_by, left_by_run}
 use Rattle.pt_run.specs.Due.{IsDue}
 use Rattle.pt_run.specs.Written.{Leaves}
-use Rattle.pt_io.specs.Calls.{Contents, Reading, Writing}
+use Rattle.pt_io.specs.Calls.{Contents, SourceCall, SinkCall}
 use Rattle.pt_run.specs.declared.fault.Fault.TheVariants as fault
 use Rattle.pt_words.specs.Views.{in_words}
 use Rattle.pt_blocks.specs.declared.blocks.Named.{Named}
@@ -92,7 +90,7 @@ none_of [] h = refl
 none_of (x ∷ xs) h = absurd (h x (inl refl))
 
 -- what holds of the graph of a plan, as the laws of made inputs ask for it
-record Known (plan : Parts) (g : Graph) (rows : ℕ → List Row) (y : Together) : Type 0 where
+record Known (plan : Parts) (g : Graph) (rows : ℕ → List Row) (y : RunState) : Type 0 where
   pub levels : AreLevels g (level_of plan.ranks)
   pub offsets : (u : Unit) → HasOffset g u (offset_of plan.offsets u)
   pub run : IsWholeRun g (level_of plan.ranks) rows y
@@ -194,7 +192,7 @@ gathered_as plan other platforms views firings same seen h rows finished =
     (h rows (subst (λ (p : Parts). HaveFinished p rows views) (sym same) (subst (HaveFinished plan rows) (sym seen) finished)))
 
 -- a write of the summary failed
-pub made_part : (o : Ending) (number workers : ℕ) (platforms : List PlatformView) (text : List ℕ) (contents : Contents) (blocks : List Named) (r : Reading) (w : Writing) → o.fault ≡ Some fault.Write → left_by o ≡ left_by_run [] platforms → IsMadeRun number platforms text →
+pub made_part : (o : Ending) (number workers : ℕ) (platforms : List PlatformView) (text : List ℕ) (contents : Contents) (blocks : List Named) (r : SourceCall) (w : SinkCall) → o.fault ≡ Some fault.Write → left_by o ≡ left_by_run [] platforms → IsMadeRun number platforms text →
     Rose w.before w.now → AppendsPart w.written_before w.written_now text → IsDue (Some (make number workers)) contents blocks (record { fault = o.fault; left = left_by o; read = r; wrote = w })
 made_part o number workers platforms text contents blocks r w is left made rose part =
     inr (ap (λ (l : Leaves). l.misses) left, inr (is, rose, text, subst (λ (l : Leaves). IsMadeRun number l.platforms text) (sym left) made, part))

@@ -27,7 +27,7 @@ use Rattle.pt_run.specs.declared.fault.Fault.{Fault}
 use Rattle.pt_run.specs.declared.fault.Fault.TheVariants as fault
 use Rattle.pt_words.specs.declared.orders.Command.{Command}
 use Rattle.pt_words.specs.declared.orders.Command.TheVariants.{Run, Check, Meaning, Slacks}
-use Rattle.pt_run.specs.Agreeing.{TellsAll}
+use Rattle.pt_run.specs.Agreeing.{ReportsAll}
 use Rattle.pt_run.specs.Auditing.{Accepts, IsUnlawful, lawful_line}
 use Rattle.pt_run.proofs.CauseFields.{AsksFeasible, OfRows}
 use Rattle.pt_run.specs.Due.{AfterAdmission, AfterCycles, AfterFile, AfterOffsets, AfterRows, Answer, HasRunBy, IsAudited, IsDue, IsDueFor, IsDueTo, IsJudgedBy, IsMeantBy, IsReplayed, IsReplayedBy, IsSlackedBy, OnlyPuts, UnlessMemory}
@@ -73,7 +73,7 @@ module _ (order : Order) (c : Command) (name : List ℕ) (alike : refused_as (So
   defines : (d : Result Graph GraphFault) → IsKnown contents name → IfSome (contents name) (λ bytes. graph_of blocks bytes ≡ d) → Defines (refused_as (Some order)) contents blocks (over c) d
   defines d reported file = record { name = name; words = alike; bytes = reported.0; reported = reported.1; defines = of_bytes (contents name) reported.0 (λ bytes. graph_of blocks bytes ≡ d) reported.1 file }
 
-  module _ (graph_known : GraphKnown order contents → IsKnown contents name) (rows_known : RowsKnown order contents blocks → TellsAll contents blocks name) where
+  module _ (graph_known : GraphKnown order contents → IsKnown contents name) (rows_known : RowsKnown order contents blocks → ReportsAll contents blocks name) where
     bad : (f : GraphFault) → IfSome (contents name) (λ bytes. graph_of blocks bytes ≡ Err f) → Comes (Some (fault.Graph f))
     bad f file d = ⊎_elim (λ (is : a.fault ≡ Some (fault.Graph f)). inr is) (λ (wants : WantsGraph a.fault). inl (short_graph a.fault wants)) (x.graph c f (defines (Err f) (graph_known d) file))
 
@@ -87,7 +87,7 @@ module _ (order : Order) (c : Command) (name : List ℕ) (alike : refused_as (So
         ⊎_elim (λ (h : a.fault ≡ Some (fault.Infeasible send offset slack)). inr h) (λ (wants : WantsGraph a.fault). inl (short_graph a.fault wants))
         (x.infeasible c g send offset slack judges (defines (Ok g) (graph_known d) file) free is)
 
-    reads : (g : Graph) → IsFile g → NoFreeCycle g → (AsksFeasible c → IsFeasible g) → TellsAll contents blocks name → ReadsRows (Some order) contents blocks c g
+    reads : (g : Graph) → IsFile g → NoFreeCycle g → (AsksFeasible c → IsFeasible g) → ReportsAll contents blocks name → ReadsRows (Some order) contents blocks c g
     reads g file free feasible all = record {
       graph = defines (Ok g) (all.bytes, all.reported) file;
       no_free_cycle = free;
@@ -101,7 +101,7 @@ module _ (order : Order) (c : Command) (name : List ℕ) (alike : refused_as (So
 
 -- an order that is refused as a run
 module _ (order : Order) (workers : ℕ) (clock : ClockChoice) (log : Bool) (name : List ℕ) (alike : refused_as (Some order) ≡ Some (over (Run workers clock log) name)) (contents : Contents) (blocks : List Named) (a : Answer) (x : ComesByCause a.fault (Some order) contents blocks)
-    (graph_known : GraphKnown order contents → IsKnown contents name) (rows_known : RowsKnown order contents blocks → TellsAll contents blocks name) where
+    (graph_known : GraphKnown order contents → IsKnown contents name) (rows_known : RowsKnown order contents blocks → ReportsAll contents blocks name) where
   abbrev run : Command
   run = Run workers clock log
 
@@ -158,7 +158,7 @@ module _ (contents : Contents) (blocks : List Named) (a b : Answer) where
           IsDecided b.fault (audit name log) contents blocks → IsCutShort a.fault ⊎ IsAlike b.fault a.fault
       judged plan rows file is are pass g k = by_last k
         where
-          can : (all : TellsAll contents blocks name) (last : IsKnown contents log) → CanAudit (Some (audit name log)) contents blocks plan (of_run plan.graph rows) last.0
+          can : (all : ReportsAll contents blocks name) (last : IsKnown contents log) → CanAudit (Some (audit name log)) contents blocks plan (of_run plan.graph rows) last.0
           can all last = record {
             name = name;
             log = log;
@@ -254,7 +254,7 @@ module _ (contents : Contents) (blocks : List Named) (a b : Answer) where
         (λ rest. by_offsets contents a Writes g (OnlyPuts a (IsChecked g)) rest (λ send offset slack out is. absurd (too_late g send slack offset feasible is)) (λ judged puts. written (IsChecked g) puts))))
 
     -- `meaning`
-    meant : UnlessMemory a (IsDueTo (over Meaning name) contents blocks) → (rows : ℕ → List Row) → AreRows contents g rows → (text : List ℕ) → IsTables g rows (FitOnAll g) text → TellsAll contents blocks name → Writes a.fault
+    meant : UnlessMemory a (IsDueTo (over Meaning name) contents blocks) → (rows : ℕ → List Row) → AreRows contents g rows → (text : List ℕ) → IsTables g rows (FitOnAll g) text → ReportsAll contents blocks name → Writes a.fault
     meant due rows are text tables all =
         in_memory (over Meaning name) due (λ h. writes name (all.bytes, all.reported) g file (λ z. IsDueFor Meaning contents z (name ∷ []) a) h (λ k. uncycled g free (AfterRows Taken contents g (name ∷ []) a (λ rows. IsMeantBy g rows a)) k
         (λ files. by_rows contents a Writes Taken g (name ∷ []) (λ rows. IsMeantBy g rows a) files (λ actor out is. inl tt) (λ actor f out is. absurd (fails_rows contents g reported Taken actor f (rows actor) is (are actor)))

@@ -13,7 +13,7 @@ use Rattle.pt_types.specs.declared.rows.Row.{Row}
 use Rattle.pt_semantics.specs.Bounds.{link_bound}
 use Rattle.pt_semantics.specs.Platform.{State}
 use Rattle.pt_semantics.specs.Turn.{Turn}
-use Rattle.pt_semantics.specs.Visits.{Made}
+use Rattle.pt_semantics.specs.Visits.{VisitRecord}
 use Rattle.pt_semantics.proofs.Lookups.{same_some}
 use Rattle.pt_offsets.specs.Plans.{Parts}
 use Rattle.pt_turn.specs.declared.fault.TurnFault.{TurnFault}
@@ -73,7 +73,7 @@ StopAlike (Some f) (Some e) = (f.0 ≡ e.0) × (is_late (Some f.1) ≡ is_late (
 StopAlike _ _ = ⊥
 
 -- runs with the same visits
-pub stop_alike : (made : List Made) (fault stop : Option (ℕ × TurnFault)) → LastVisitEnds made fault → LastVisitEnds made stop → StopAlike fault stop
+pub stop_alike : (made : List VisitRecord) (fault stop : Option (ℕ × TurnFault)) → LastVisitEnds made fault → LastVisitEnds made stop → StopAlike fault stop
 stop_alike [] fault stop h k = absurd h
 stop_alike (m ∷ []) None None h k = tt
 stop_alike (m ∷ []) None (Some e) h k = absurd (false≢true (sym h ∙ k.1))

@@ -8,7 +8,7 @@ use Rattle.pt_sensors.specs.declared.recorded_fault.RecordedFault.{RecordedFault
 use Rattle.pt_sensors.specs.declared.recorded_fault.LateRows.TheVariants.{Refused}
 use Rattle.pt_sensors.specs.declared.sensor_rows.SensorRows.{SensorRows}
 use Rattle.pt_sensors.specs.Asked.{Asks, ReadFails}
-use Rattle.pt_io.specs.Calls.{Contents, Reading}
+use Rattle.pt_io.specs.Calls.{Contents, SourceCall}
 use Rattle.pt_sensors.specs.Listed.{rows_for}
 use Rattle.pt_sensors.specs.Places.{of_run}
 use Rattle.pt_sensors.specs.Recorded.{AllPass, AreRows, CauseOfRows}
@@ -30,7 +30,7 @@ module _ (contents : Contents) (p : Parts) (g : Graph) (Then : Answer → Parts 
   on_graph a (inr k) = inr (inr (admitted.no_free_cycle, inr (admitted.feasible, k)))
 
   -- its sensors have no rows
-  pub no_rows : (f : RecordedFault) (r : Reading) → CauseOfRows Refused f contents g [] r → RefusesAsDue (fault_of_rows f) r (λ a. AfterAdmission contents p.graph [] a (Then a))
+  pub no_rows : (f : RecordedFault) (r : SourceCall) → CauseOfRows Refused f contents g [] r → RefusesAsDue (fault_of_rows f) r (λ a. AfterAdmission contents p.graph [] a (Then a))
   no_rows f r cause a is out = on_graph a (rows_due (λ (text : List ℕ). text) Refused f contents p.graph r Planned (subst (λ (z : Graph). CauseOfRows Refused f contents z [] r) same cause) a is out)
 
   -- its sensors have these rows, and the call goes on

@@ -1,6 +1,5 @@
 -- Platforms after a paced run.
-use Rattle.std.proofs.Common.{◌≡◌, ◌==◌, ℕ, Bool, true, false, if◌then◌else◌, List, [], Option, None, Some, length, ◌<◌, get_or, slice_get, option_map, refl, sym, ap, subst, ◌∙◌, eqb-true}
-use Rattle.std.specs.Prelude.{IfSome, MatchOption}
+use Rattle.std.proofs.Common.{◌≡◌, ◌==◌, ℕ, Bool, true, false, if◌then◌else◌, List, [], Option, Some, ◌<◌, slice_get, refl, ap, subst, ◌∙◌, eqb-true}
 use Rattle.std.proofs.Math.Path.{fun_ext}
 use Rattle.pt_types.specs.declared.graph.Graph.{Graph}
 use Rattle.pt_types.specs.declared.rows.Row.{Row}
@@ -14,7 +13,7 @@ use Rattle.pt_turn.specs.Platforms.{PlatformView, rows_at, state_at}
 use Rattle.pt_turn.specs.All.{AreAll}
 use Rattle.pt_confluence.specs.Gathered.{AreLegal}
 use Rattle.pt_rounds.specs.Outcome.{IsOutcome as IsPacedOutcome}
-use Rattle.pt_run.specs.Runs.{IsOutcomeBy, paced_clocking}
+use Rattle.pt_run.specs.Runs.{IsOutcomeBy, paced_run_clocks}
 
 -- a platform opens with its own rows alone
 same_opening : (g : Graph) (i : ℕ) (some others : ℕ → List Row) → ((a : ℕ) → platform_of g a ≡ i → some a ≡ others a) → opened g i some ≡ opened g i others
@@ -40,7 +39,7 @@ legal_in plan rows platforms all are i v there =
 
 -- what paced rounds leave
 pub paced_outcome : (workers : ℕ) (plan : Parts) (rows : ℕ → List Row) (platforms : List PlatformView) (fault : Option (ℕ × TurnFault)) → AreLegal platforms → IsPacedOutcome plan (level_of plan.ranks) rows platforms fault →
-    IsOutcomeBy (paced_clocking workers) plan rows platforms fault
+    IsOutcomeBy (paced_run_clocks workers) plan rows platforms fault
 paced_outcome workers plan rows platforms fault are run = record {
   kept = record { all = run.all; legal = legal_in plan rows platforms run.all are; matched = run.matched; linked = run.linked; ends = run.ends };
   readings = record { rounds = run.after; on_schedule = run.on_schedule; none_late = run.none_late };

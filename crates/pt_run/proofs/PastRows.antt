@@ -3,7 +3,7 @@ use Rattle.std.proofs.Common.{ℕ, Bool, List, Option, Some, None}
 use Rattle.pt_types.specs.declared.rows.Row.{Row}
 use Rattle.pt_blocks.specs.declared.blocks.Named.{Named}
 use Rattle.pt_offsets.specs.Plans.{Parts}
-use Rattle.pt_io.specs.Calls.{Contents, Reading, Writing}
+use Rattle.pt_io.specs.Calls.{Contents, SourceCall, SinkCall}
 use Rattle.pt_run.specs.declared.fault.Fault.{Fault}
 use Rattle.pt_run.specs.declared.fault.Fault.TheVariants as fault
 use Rattle.pt_run.specs.Leaving.{RunWith}
@@ -16,11 +16,11 @@ use Rattle.pt_run.proofs.Stages.{not_true}
 abbrev pub HasRows : Contents → List Named → List ℕ → Type 0
 HasRows contents blocks name = RunWith contents blocks name (λ plan rows. Unit {0})
 
-pub data PastRows (left : Leaves) (name : List ℕ) (contents : Contents) (blocks : List Named) (r : Reading) (w : Writing) (outcome : Option Fault) : Type 0 where
+pub data PastRows (left : Leaves) (name : List ℕ) (contents : Contents) (blocks : List Named) (r : SourceCall) (w : SinkCall) (outcome : Option Fault) : Type 0 where
   past_rows : HasRows contents blocks name → PastRows left name contents blocks r w outcome
   as_run : EndsBy outcome left (Some (paced_run, name)) contents blocks r w → PastRows left name contents blocks r w outcome
 
-module _ (left : Leaves) (name : List ℕ) (contents : Contents) (blocks : List Named) (r : Reading) (w : Writing) where
+module _ (left : Leaves) (name : List ℕ) (contents : Contents) (blocks : List Named) (r : SourceCall) (w : SinkCall) where
   rows_of : (Fact : Parts → (ℕ → List Row) → Type 0) → RunWith contents blocks name Fact → HasRows contents blocks name
   rows_of Fact h = record { plan = h.plan; file = h.file; over = record { admitted = h.over.admitted; rows = h.over.rows; sensors = h.over.sensors; in_time = h.over.in_time; fact = tt } }
 

@@ -1,5 +1,5 @@
 -- How a run over a graph ends, by how it ends over its plan.
-use Rattle.std.proofs.Common.{◌≡◌, ◌≢◌, ◌⊎◌, ℕ, ℤ, Bool, true, false, List, [], length, Option, Some, None, Result, Ok, Err, IfOk, IfErr, refl, sym, ap, subst, ◌∙◌, inl, inr, ⊎_elim}
+use Rattle.std.proofs.Common.{◌≡◌, ◌≢◌, ◌⊎◌, ℕ, ℤ, Bool, true, false, List, [], Option, Some, None, Result, Ok, Err, IfOk, IfErr, refl, sym, ap, subst, ◌∙◌, inl, inr, ⊎_elim}
 use Rattle.pt_io.specs.Causes.{Appends, AppendsPart, Rose}
 use Rattle.pt_types.specs.declared.graph.Graph.{Graph}
 use Rattle.pt_types.specs.declared.rows.Row.{Row}
@@ -13,7 +13,7 @@ use Rattle.pt_offsets.specs.Plans.{IsAdmitted, Parts}
 use Rattle.pt_sensors.specs.declared.recorded_fault.RecordedFault.{RecordedFault}
 use Rattle.pt_sensors.specs.declared.recorded_fault.RecordedFault.TheVariants as rows
 use Rattle.pt_sensors.specs.declared.recorded_fault.LateRows.TheVariants.{Refused}
-use Rattle.pt_io.specs.Calls.{Contents, Reading, Writing}
+use Rattle.pt_io.specs.Calls.{Contents, SourceCall, SinkCall}
 use Rattle.pt_sensors.specs.Places.{of_run}
 use Rattle.pt_turn.specs.declared.fault.TurnFault.{TurnFault}
 use Rattle.pt_turn.specs.declared.fault.TurnFault.TheVariants as turn
@@ -21,7 +21,7 @@ use Rattle.pt_turn.specs.Platforms.{PlatformView}
 use Rattle.pt_sensors.specs.Recorded.{CauseOfRows, SensorUnread}
 use Rattle.pt_run.specs.declared.outcome.Stopped.{Stopped}
 use Rattle.pt_run.specs.declared.outputs.Outputs.{Outputs}
-use Rattle.pt_run.specs.Readings.{Clocking}
+use Rattle.pt_run.specs.Readings.{RunClocks}
 use Rattle.pt_run.specs.Runs.{CauseOfStop, HasOutputs, IsFinishedRun, IsOutcomeOver, IsStop, outputs_text}
 use Rattle.pt_run.specs.declared.fault.Fault.{Fault}
 use Rattle.pt_run.specs.declared.fault.Fault.TheVariants as fault
@@ -34,7 +34,7 @@ use Rattle.pt_words.specs.declared.orders.Command.TheVariants.{Run}
 use Rattle.pt_run.specs.Due.{AfterAdmission, AfterCycles, AfterOffsets, Answer, EndsRefused, IsDueFor, RefusedWith, UnlessMemory}
 use Rattle.pt_run.specs.Faults.{fault_of_plan, fault_of_rows, fault_of_turn}
 use Rattle.pt_run.specs.Leaving.{LeavesRun, PutsMeaning}
-use Rattle.pt_run.specs.Written.{HasNothing, Leaves, clocking, has_run, leaves_nothing, stop_of}
+use Rattle.pt_run.specs.Written.{HasNothing, Leaves, run_clocks, has_run, leaves_nothing, stop_of}
 use Rattle.pt_run.specs.Texts.{HasEnded, LeftAll, OrMemory, WroteRun, left_by, left_by_run, left_with, stop_in}
 use Rattle.pt_run.proofs.Ending.{has_nothing}
 
@@ -43,41 +43,41 @@ abbrev over : Leaves → List ClockView → List ClockView → Leaves
 over left before now = record { misses = left.misses; platforms = left.platforms; before = before; now = now }
 
 -- the text of a run that finished, as it was put
-pub puts : (contents : Contents) (c : Clocking) (log : Bool) (plan : Parts) (platforms : List PlatformView) (misses : List Miss) (text : List ℕ) (Put : List ℕ → Type 0) → (done : IsFinishedRun contents c plan log platforms misses text) → Put text →
+pub puts : (contents : Contents) (c : RunClocks) (log : Bool) (plan : Parts) (platforms : List PlatformView) (misses : List Miss) (text : List ℕ) (Put : List ℕ → Type 0) → (done : IsFinishedRun contents c plan log platforms misses text) → Put text →
     PutsMeaning plan (of_run plan.graph done.run.rows) log platforms Put
 puts contents c log plan platforms misses text Put done put = record { fit = done.fit; firings = done.firings; meaning = done.meaning; text = subst Put done.written put; held = done.held }
 
 -- a run of a plan by this clock
-module _ (workers : ℕ) (clock : ClockChoice) (log : Bool) (contents : Contents) (plan : Parts) (admitted : IsAdmitted plan) (r : Reading) (w : Writing) where
+module _ (workers : ℕ) (clock : ClockChoice) (log : Bool) (contents : Contents) (plan : Parts) (admitted : IsAdmitted plan) (r : SourceCall) (w : SinkCall) where
   -- it ended so with this fault, or without one
   abbrev Due : Option Fault → Leaves → Type 0
   Due o left = UnlessMemory (record { fault = o; left = left; read = r; wrote = w }) (IsDueFor (Run workers clock log) contents plan.graph [])
 
   -- its platforms run_due
-  run_due : (o : Option Fault) (left : Leaves) (run : IsOutcomeOver contents (clocking workers clock left) plan left.platforms (stop_of o)) → has_run o ≡ true → LeavesRun (clocking workers clock left) log o left w plan (of_run plan.graph run.rows) → (o ≡ Some fault.Write → Rose w.before w.now) → Due o left
+  run_due : (o : Option Fault) (left : Leaves) (run : IsOutcomeOver contents (run_clocks workers clock left) plan left.platforms (stop_of o)) → has_run o ≡ true → LeavesRun (run_clocks workers clock left) log o left w plan (of_run plan.graph run.rows) → (o ≡ Some fault.Write → Rose w.before w.now) → Due o left
   run_due o left run has leaves rose =
       inr (inr (admitted.no_free_cycle, inr (admitted.feasible, inr (inr (inr (run.rows, run.sensors, run.in_time, (plan, refl, admitted, record { ran = has; leaves = leaves; failed = rose; paced = run.fact.paced })))))))
 
-  finished : (left : Leaves) (text : List ℕ) → IsFinishedRun contents (clocking workers clock left) plan log left.platforms left.misses text → Appends w.written_before w.written_now text → Due None left
+  finished : (left : Leaves) (text : List ℕ) → IsFinishedRun contents (run_clocks workers clock left) plan log left.platforms left.misses text → Appends w.written_before w.written_now text → Due None left
   finished left text done put =
       run_due None left done.run refl (record {
         kept = done.run.fact.kept;
         readings = done.run.fact.readings;
-        written = λ e. puts contents (clocking workers clock left) log plan left.platforms left.misses text (Appends w.written_before w.written_now) done put;
+        written = λ e. puts contents (run_clocks workers clock left) log plan left.platforms left.misses text (Appends w.written_before w.written_now) done put;
         misses = λ e. done.missed;
         part = λ e. absurd cc;
         unwritten = λ ne. absurd (ne refl);
         no_misses = λ ne. absurd (ne refl);
       }) (λ e. absurd cc)
 
-  partly : (left : Leaves) (misses : List Miss) (text : List ℕ) → IsFinishedRun contents (clocking workers clock left) plan log left.platforms misses text → left.misses ≡ [] → Rose w.before w.now → AppendsPart w.written_before w.written_now text → Due (Some fault.Write) left
+  partly : (left : Leaves) (misses : List Miss) (text : List ℕ) → IsFinishedRun contents (run_clocks workers clock left) plan log left.platforms misses text → left.misses ≡ [] → Rose w.before w.now → AppendsPart w.written_before w.written_now text → Due (Some fault.Write) left
   partly left misses text done none rose put =
       run_due (Some fault.Write) left done.run refl (record {
         kept = done.run.fact.kept;
         readings = done.run.fact.readings;
         written = λ e. absurd cc;
         misses = λ e. absurd cc;
-        part = λ e. puts contents (clocking workers clock left) log plan left.platforms misses text (AppendsPart w.written_before w.written_now) done put;
+        part = λ e. puts contents (run_clocks workers clock left) log plan left.platforms misses text (AppendsPart w.written_before w.written_now) done put;
         unwritten = λ ne. absurd (ne refl);
         no_misses = λ ne. none;
       }) (λ e. rose)
@@ -163,7 +163,7 @@ ran_back Machine one other before now has kept = (kept.0, λ e. absurd (never (s
     never e = cc
 
 -- unless memory ran out, the clocks come back
-pub back : {C : Type 0} (ran : Result Outputs Stopped) (o : Ending) (w : Writing) (clock : ClockChoice) (before now : List C) → HasEnded ran o w → (stop_in ran ≢ Some fault.Memory → AreBackBy clock (stop_in ran) before now) → o.fault ≢ Some fault.Memory →
+pub back : {C : Type 0} (ran : Result Outputs Stopped) (o : Ending) (w : SinkCall) (clock : ClockChoice) (before now : List C) → HasEnded ran o w → (stop_in ran ≢ Some fault.Memory → AreBackBy clock (stop_in ran) before now) → o.fault ≢ Some fault.Memory →
     AreBackBy clock o.fault before now
 back (Ok ran) o w clock before now h kept never =
     let finished : AreBackBy clock None before now = kept (λ e. absurd cc) in
@@ -208,7 +208,7 @@ no_plan_memory reported g o report is none = plan_refused plan.Memory reported g
 
 -- a graph that is refused before its rows are read
 module _ (o : Ending) (g : Graph) (refused : EndsRefused o (λ a. AfterCycles g a (AfterOffsets g a ⊥))) where
-  pub unplanned : (before now : List ClockView) (contents : Contents) (r : Reading) (w : Writing) (Then : Answer → Parts → (ℕ → List Row) → Type 0) → w.written_now ≡ w.written_before →
+  pub unplanned : (before now : List ClockView) (contents : Contents) (r : SourceCall) (w : SinkCall) (Then : Answer → Parts → (ℕ → List Row) → Type 0) → w.written_now ≡ w.written_before →
       UnlessMemory (record { fault = o.fault; left = left_with o before now; read = r; wrote = w }) (λ a. AfterAdmission contents g [] a (Then a))
   unplanned before now contents r w Then still = past (refused.3 r a refl (refused.2, has_nothing o before now refused.0, still))
     where
@@ -225,7 +225,7 @@ module _ (o : Ending) (g : Graph) (refused : EndsRefused o (λ a. AfterCycles g 
   pub by_refusal : (Goal : Option Fault → Type 0) → ((actors : List ℕ) → Goal (Some (fault.Cycle actors))) → ((send : ℕ) (offset : ℤ) (slack : ℕ) → Goal (Some (fault.Infeasible send offset slack))) → Goal (Some fault.Memory) → Goal o.fault
   by_refusal Goal cyclic slow memory = by_stage (refused.3 r a refl (refused.2, has_nothing o [] [] refused.0, refl))
     where
-      r : Reading
+      r : SourceCall
       r = record { asked_before = None; asked_now = None; before = 0; now = 0 }
 
       a : Answer

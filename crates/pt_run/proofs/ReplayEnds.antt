@@ -17,7 +17,7 @@ use Rattle.pt_turn.specs.declared.fault.TurnFault.TheVariants as turn
 use Rattle.pt_turn.specs.Platforms.{PlatformView}
 use Rattle.pt_confluence.specs.Gathered.{HaveFinished}
 use Rattle.pt_tables.specs.Misses.{miss_line}
-use Rattle.pt_io.specs.Calls.{Contents, Reading, Writing}
+use Rattle.pt_io.specs.Calls.{Contents, SourceCall, SinkCall}
 use Rattle.pt_sensors.specs.declared.sensor_rows.SensorRows.{SensorRows}
 use Rattle.pt_sensors.specs.Listed.{rows_for}
 use Rattle.pt_sensors.specs.RowsOf.{next}
@@ -27,7 +27,6 @@ use Rattle.pt_air.specs.declared.fault.AirFault.{AirFault}
 use Rattle.pt_air.specs.declared.fault.AirFault.TheVariants as airs
 use Rattle.pt_air.specs.declared.row.AirRow.{AirRow}
 use Rattle.pt_air.specs.AirOf.{air_after_header, air_of, air_with, air_rows_of}
-use Rattle.pt_semantics.specs.RecordedTimes.{KeepsBounds}
 use Rattle.pt_air.specs.Rows.{◌>>=◌}
 use Rattle.pt_replay.specs.Outcome.{IsOutcome as IsReplayOutcome}
 use Rattle.pt_run.specs.declared.fault.Fault.{Fault}
@@ -100,12 +99,12 @@ replay_outputs log p rows recorded platforms stopped (Ok ran) outcome (none, rep
 replay_outputs log p rows recorded platforms stopped (Err s) outcome h = tt
 
 -- nothing was replayed
-pub unread_stops : (f : Fault) (s : Stopped) (air : List ℕ) (log : Bool) (contents : Contents) (g : Graph) (r : Reading) → s.fault ≡ f → s.platforms.items ≡ [] → RefusesAsDue f r (λ a. AfterAdmission contents g [] a (λ p rows. AfterAir air contents g [] a ⊥)) →
+pub unread_stops : (f : Fault) (s : Stopped) (air : List ℕ) (log : Bool) (contents : Contents) (g : Graph) (r : SourceCall) → s.fault ≡ f → s.platforms.items ≡ [] → RefusesAsDue f r (λ a. AfterAdmission contents g [] a (λ p rows. AfterAir air contents g [] a ⊥)) →
     StopsAsDue s.fault s.platforms.items r (IsReplayed air log contents g [])
 unread_stops f s air log contents g r is_fault none refuses a is out = past_air air log contents g a (refuses a is (out.0 ∙ ap Some is_fault, (out.1.0, out.1.1 ∙ none), out.2))
 
 -- memory ran out before it began
-pub memory_stops : (s : Stopped) (air : List ℕ) (log : Bool) (contents : Contents) (g : Graph) (r : Reading) → s.fault ≡ fault.Memory → s.platforms.items ≡ [] → StopsAsDue s.fault s.platforms.items r (IsReplayed air log contents g [])
+pub memory_stops : (s : Stopped) (air : List ℕ) (log : Bool) (contents : Contents) (g : Graph) (r : SourceCall) → s.fault ≡ fault.Memory → s.platforms.items ≡ [] → StopsAsDue s.fault s.platforms.items r (IsReplayed air log contents g [])
 memory_stops s air log contents g r is_fault none a is out = inl (out.0 ∙ ap Some is_fault, (out.1.0, out.1.1 ∙ none), out.2)
 
 -- what was put is the tables of the meaning, and the log if it is asked for
@@ -116,7 +115,7 @@ puts log ran p rows recorded Put (outcome, reported) put =
     record { fit = outcome.fit; firings = text.0; meaning = text.1; text = subst Put text.2 put; held = reported.held }
 
 -- a replay of a plan
-module _ (air : List ℕ) (log : Bool) (contents : Contents) (p : Parts) (r : Reading) (w : Writing) where
+module _ (air : List ℕ) (log : Bool) (contents : Contents) (p : Parts) (r : SourceCall) (w : SinkCall) where
   -- it ended so with this fault, or without one
   abbrev Due : Option Fault → Leaves → Type 0
   Due o left = UnlessMemory (record { fault = o; left = left; read = r; wrote = w }) (IsReplayed air log contents p.graph [])
@@ -197,7 +196,7 @@ module _ (air : List ℕ) (log : Bool) (contents : Contents) (p : Parts) (f : Fa
 module _ (air : List ℕ) (log : Bool) (contents : Contents) (p : Parts) (entries : List SensorRows) (recorded : Air) (read : IsRecorded contents air p entries recorded) (platforms : List PlatformView) where
   -- a late message: a row of the recording breaks a stated bound
   late_stops : (platform actor : ℕ) (tag : Tag) (reading limit : ℕ) → IsReplayOutcome p (level_of p.ranks) (rows_of_run p.graph (rows_for entries)) recorded platforms (Some (platform, turn.Late actor tag reading limit)) →
-      (breach : Option ℕ) → recorded.breach ≡ breach → (s : Stopped) (r : Reading) → IsStop breach (Some (platform, turn.Late actor tag reading limit)) platforms s → StopsAsDue s.fault s.platforms.items r (IsReplayed air log contents p.graph [])
+      (breach : Option ℕ) → recorded.breach ≡ breach → (s : Stopped) (r : SourceCall) → IsStop breach (Some (platform, turn.Late actor tag reading limit)) platforms s → StopsAsDue s.fault s.platforms.items r (IsReplayed air log contents p.graph [])
   late_stops platform actor tag reading limit outcome None none s r stop a is out =
       absurd (never_late p (rows_of_run p.graph (rows_for entries)) recorded platforms (Some (platform, turn.Late actor tag reading limit)) outcome (read.bounds.0 none) platform actor tag reading limit refl)
   late_stops platform actor tag reading limit outcome (Some row) breaks s r stop a is out =
@@ -206,7 +205,7 @@ module _ (air : List ℕ) (log : Bool) (contents : Contents) (p : Parts) (entrie
       (out.0 ∙ ap Some stop.0, (out.1.0, out.1.1 ∙ stop.1), out.2)
 
   -- or memory, or a platform that needed more claims than it may make
-  pub replay_stops : (stopped : Option (ℕ × TurnFault)) → IsReplayOutcome p (level_of p.ranks) (rows_of_run p.graph (rows_for entries)) recorded platforms stopped → (s : Stopped) (r : Reading) → IsStop recorded.breach stopped platforms s →
+  pub replay_stops : (stopped : Option (ℕ × TurnFault)) → IsReplayOutcome p (level_of p.ranks) (rows_of_run p.graph (rows_for entries)) recorded platforms stopped → (s : Stopped) (r : SourceCall) → IsStop recorded.breach stopped platforms s →
       StopsAsDue s.fault s.platforms.items r (IsReplayed air log contents p.graph [])
   replay_stops None outcome s r stop a is out = inl (out.0 ∙ ap Some stop.0, (out.1.0, out.1.1 ∙ stop.1), out.2)
   replay_stops (Some (platform, turn.Long)) outcome s r stop a is out =
@@ -221,7 +220,7 @@ module _ (air : List ℕ) (log : Bool) (contents : Contents) (p : Parts) (entrie
       over_air air contents p entries recorded (FinishedReplay log ran) read (replay_outputs log p (rows_of_run p.graph (rows_for entries)) recorded platforms stopped (Ok ran) outcome output)
   replay_ran_over stopped (Err s) outcome output = tt
 
-  pub replay_stops_over : (stopped : Option (ℕ × TurnFault)) → IsReplayOutcome p (level_of p.ranks) (rows_of_run p.graph (rows_for entries)) recorded platforms stopped → (result : Result Outputs Stopped) (r : Reading) →
+  pub replay_stops_over : (stopped : Option (ℕ × TurnFault)) → IsReplayOutcome p (level_of p.ranks) (rows_of_run p.graph (rows_for entries)) recorded platforms stopped → (result : Result Outputs Stopped) (r : SourceCall) →
       IfErr result (IsStop recorded.breach stopped platforms) → IfErr result (λ s. StopsAsDue s.fault s.platforms.items r (IsReplayed air log contents p.graph []))
   replay_stops_over stopped outcome (Ok ran) r stop = tt
   replay_stops_over stopped outcome (Err s) r stop = replay_stops stopped outcome s r stop

@@ -1,5 +1,5 @@
 -- After a replayed run within the stated bounds the platforms have done what they do in the paced run.
-use Rattle.std.proofs.Common.{◌≡◌, ◌∙◌, ℕ, ◌<◌, ◌≤◌, ◌++◌, true, false, List, Option, None, Some, length, slice_get, option_map, refl, sym, ap, subst, ⊎_elim, arith}
+use Rattle.std.proofs.Common.{◌≡◌, ◌∙◌, ℕ, ◌<◌, ◌≤◌, ◌++◌, true, false, List, Option, None, Some, length, slice_get, refl, sym, ap, subst, ⊎_elim, arith}
 use Rattle.std.proofs.lemmas.Bool.{cases_Bool, cases_lt}
 use Rattle.pt_tags.specs.declared.tag.Tag.{Tag}
 use Rattle.pt_types.specs.declared.graph.Unit.{Unit}
@@ -13,7 +13,7 @@ use Rattle.pt_semantics.specs.Lists.{Each, IsIn}
 use Rattle.pt_semantics.specs.Parts.{parts}
 use Rattle.pt_semantics.specs.Platform.{opened}
 use Rattle.pt_semantics.specs.Turn.{Turn}
-use Rattle.pt_semantics.specs.Visits.{AreFinished, Made, Together}
+use Rattle.pt_semantics.specs.Visits.{AreFinished, VisitRecord, RunState}
 use Rattle.pt_semantics.specs.Wired.{IsWired}
 use Rattle.pt_semantics.proofs.LawfulEdges.{wired}
 use Rattle.pt_semantics.proofs.Lookups.{Each-in, none_some}
@@ -54,7 +54,7 @@ module _ (plan : Parts) (rows : ℕ → List Row) (air : Air) (platforms : List 
     bounds = bounds;
   }
 
-  abbrev end : Together
+  abbrev end : RunState
   end = without_arrivals outcome.after.state
 
   pace : KeepsPace plan.graph (level_of plan.ranks) rows end
@@ -90,19 +90,19 @@ module _ (plan : Parts) (rows : ℕ → List Row) (air : Air) (platforms : List 
       (λ (few : unit_firings plan.graph i (parts plan.graph xs) ≤ plan.graph.claims). absurd (none_some f (sym ((outcome.after.faults i v at).1 (fine few)) ∙ is)))
       (cases_lt plan.graph.claims (unit_firings plan.graph i (parts plan.graph xs)))
     where
-      long : Each (λ (m : Made). m.fault ≡ true → plan.graph.claims < unit_firings plan.graph m.platform (parts plan.graph xs)) outcome.after.run.made
+      long : Each (λ (m : VisitRecord). m.fault ≡ true → plan.graph.claims < unit_firings plan.graph m.platform (parts plan.graph xs)) outcome.after.run.made
       long = faults_are_long plan.graph (level_of plan.ranks) air rows outcome.after.run.rounds outcome.after.run.now (length plan.graph.platforms) outcome.after.run.made outcome.after.state inside
           (record { before = outcome.after.run.before; run = outcome.after.run.run; some = omega arith; round = outcome.after.run.round }) rank xs ranks meaning
 
       clash : (n : ℕ) → plan.graph.claims < n → n ≤ plan.graph.claims → ⊥
       clash n over le = omega arith
 
-      fine : unit_firings plan.graph i (parts plan.graph xs) ≤ plan.graph.claims → (m : Made) → IsIn m outcome.after.run.made → m.platform ≡ i → m.fault ≡ false
+      fine : unit_firings plan.graph i (parts plan.graph xs) ≤ plan.graph.claims → (m : VisitRecord) → IsIn m outcome.after.run.made → m.platform ≡ i → m.fault ≡ false
       fine few m mem home = ⊎_elim
           (λ (faulty : m.fault ≡ true).
           absurd (clash (unit_firings plan.graph i (parts plan.graph xs))
           (subst (λ p. plan.graph.claims < unit_firings plan.graph p (parts plan.graph xs)) home
-          (Each-in (λ (z : Made). z.fault ≡ true → plan.graph.claims < unit_firings plan.graph z.platform (parts plan.graph xs)) outcome.after.run.made long m mem faulty)) few))
+          (Each-in (λ (z : VisitRecord). z.fault ≡ true → plan.graph.claims < unit_firings plan.graph z.platform (parts plan.graph xs)) outcome.after.run.made long m mem faulty)) few))
           (λ (none : m.fault ≡ false). none)
           (cases_Bool m.fault)
 

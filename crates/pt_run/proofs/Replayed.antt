@@ -12,7 +12,7 @@ use Rattle.pt_turn.specs.declared.fault.TurnFault.TheVariants as turn
 use Rattle.pt_turn.specs.Platforms.{state_at}
 use Rattle.pt_turn.specs.Running.{Shows}
 use Rattle.pt_sensors.specs.declared.recorded_fault.LateRows.TheVariants.{Refused}
-use Rattle.pt_io.specs.Calls.{Contents, Reading, Writing}
+use Rattle.pt_io.specs.Calls.{Contents, SourceCall, SinkCall}
 use Rattle.pt_sensors.specs.Places.{of_run}
 use Rattle.pt_sensors.specs.Recorded.{AllPass, AreRows}
 use Rattle.pt_types.specs.declared.air.Air.{Air}
@@ -33,7 +33,7 @@ pub stopped_in_air : (left : Leaves) (plan : Parts) (rows : ℕ → List Row) (r
     OnPlatform left plan.graph platform (λ v. Shows plan.graph v.turns (state_at v) f)
 stopped_in_air left plan rows recorded platform f outcome = let (v, at, is, shows, before) = outcome.ends in (v, at, ap (λ (p : Parts). p.graph) (outcome.all.plans platform v at), shows)
 
-module _ (left : Leaves) (name air : List ℕ) (log : Bool) (contents : Contents) (blocks : List Named) (r : Reading) (w : Writing) where
+module _ (left : Leaves) (name air : List ℕ) (log : Bool) (contents : Contents) (blocks : List Named) (r : SourceCall) (w : SinkCall) where
   -- with any fault but a failed write nothing is written
   pub unwritten_in_air : (f : Fault) → f ≢ fault.Write → EndsReplay (Some f) left name air log contents blocks r w → w.written_now ≡ w.written_before
   unwritten_in_air fault.Write never k = absurd (never refl)

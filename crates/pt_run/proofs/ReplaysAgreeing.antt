@@ -14,7 +14,7 @@ use Rattle.pt_semantics.specs.Lists.{IsIn}
 use Rattle.pt_semantics.specs.Meaning.{IsMeaning}
 use Rattle.pt_semantics.specs.Ranks.{AreLevels, AreRanks}
 use Rattle.pt_semantics.specs.Tables.{tables_text}
-use Rattle.pt_semantics.specs.Visits.{Made}
+use Rattle.pt_semantics.specs.Visits.{VisitRecord}
 use Rattle.pt_semantics.proofs.Acyclic.{levels_are_one, ranks_are_one}
 use Rattle.pt_semantics.proofs.Lookups.{none_some, same_some}
 use Rattle.pt_laws.proofs.Unique.{meaning_is_one}
@@ -27,7 +27,7 @@ use Rattle.pt_turn.specs.All.{histories_of}
 use Rattle.pt_turn.specs.Platforms.{PlatformView}
 use Rattle.pt_monitors.specs.Misses.{missed_of}
 use Rattle.pt_tables.specs.Platforms.{histories}
-use Rattle.pt_io.specs.Calls.{Contents, Reading, Writing}
+use Rattle.pt_io.specs.Calls.{Contents, SourceCall, SinkCall}
 use Rattle.pt_sensors.specs.Places.{of_run}
 use Rattle.pt_types.specs.declared.air.Air.{Air}
 use Rattle.pt_air.specs.declared.fault.AirFault.{AirFault}
@@ -37,7 +37,7 @@ use Rattle.pt_replay_laws.specs.ReplayState.{ReplayState}
 use Rattle.pt_replay_laws.proofs.OneReplay.{replays_are_one}
 use Rattle.pt_replay.specs.Outcome.{IsOutcome as IsReplayOutcome, IsAfterReplay}
 use Rattle.pt_run.specs.declared.fault.Fault.{Fault}
-use Rattle.pt_run.specs.Agreeing.{TellsAll}
+use Rattle.pt_run.specs.Agreeing.{ReportsAll}
 use Rattle.pt_run.specs.Leaving.{PutsMeaning, RunWith}
 use Rattle.pt_run.specs.Replaying.{LeavesReplay, OnAir, stop_of_replay}
 use Rattle.pt_run.specs.ReplaysAgreeing.{AreStoppedAlike, LeaveAlike, ReplayCallsAgree, ReplaysAgree, WritesTables}
@@ -52,7 +52,7 @@ use Rattle.pt_run.proofs.RunsAgreeing.{by_histories, same_list, same_log, same_r
 use Rattle.pt_run.proofs.StepsAgreeing.{none_past}
 
 -- a whole replay with these turns in its last round
-abbrev IsReplayOf : Graph → (ℕ → ℕ) → Air → (ℕ → List Row) → ReplayState → List Made → Type 0
+abbrev IsReplayOf : Graph → (ℕ → ℕ) → Air → (ℕ → List Row) → ReplayState → List VisitRecord → Type 0
 IsReplayOf g level air rows y made = (run : IsWholeReplay g level air rows y) × (run.made ≡ made)
 
 kept_of : (plan : Parts) (rows : ℕ → List Row) (air : Air) (platforms : List PlatformView) (fault : Option (ℕ × TurnFault)) → IsReplayOutcome plan (level_of plan.ranks) rows air platforms fault → IsKept plan rows platforms fault
@@ -62,7 +62,7 @@ kept_of plan rows air platforms fault h = record { all = h.all; legal = h.legal;
 fine_too : (plan other : Parts) (rows : ℕ → List Row) (level levels : ℕ → ℕ) (air : Air) (platforms others : List PlatformView) (a : IsAfterReplay plan rows level air platforms) (b : IsAfterReplay other rows levels air others) → a.run.made ≡ b.run.made →
     (i : ℕ) (v w : PlatformView) → slice_get platforms i ≡ Some v → slice_get others i ≡ Some w → v.fault ≡ None → w.fault ≡ None
 fine_too plan other rows level levels air platforms others a b same i v w at there none =
-    (b.faults i w there).1 (subst (λ made. (m : Made) → IsIn m made → m.platform ≡ i → m.fault ≡ false) same ((a.faults i v at).0 none))
+    (b.faults i w there).1 (subst (λ made. (m : VisitRecord) → IsIn m made → m.platform ≡ i → m.fault ≡ false) same ((a.faults i v at).0 none))
 
 module _ (plan other : Parts) (rows : ℕ → List Row) (air : Air) (platforms others : List PlatformView) (fault stop : Option (ℕ × TurnFault)) (graphs : plan.graph ≡ other.graph)
     (h : IsReplayOutcome plan (level_of plan.ranks) rows air platforms fault) (k : IsReplayOutcome other (level_of other.ranks) rows air others stop) where
@@ -142,7 +142,7 @@ replays_agree plan other rows air platforms others fault stop graphs h k = (
 )
 
 -- two calls that ran
-module _ (log logged : Bool) (contents : Contents) (blocks : List Named) (name air bytes : List ℕ) (o p : Option Fault) (left leaves : Leaves) (r q : Reading) (w v : Writing) (all : TellsAll contents blocks name) (reported : contents air ≡ Some bytes)
+module _ (log logged : Bool) (contents : Contents) (blocks : List Named) (name air bytes : List ℕ) (o p : Option Fault) (left leaves : Leaves) (r q : SourceCall) (w v : SinkCall) (all : ReportsAll contents blocks name) (reported : contents air ≡ Some bytes)
     (h : RunWith contents blocks name (OnAir contents air (LeavesReplay log o left w))) (k : RunWith contents blocks name (OnAir contents air (LeavesReplay logged p leaves v))) where
   defines : (g : Graph) → IfSome (contents name) (λ bytes. graph_of blocks bytes ≡ Ok g) → graph_of blocks all.bytes ≡ Ok g
   defines g file = of_bytes (contents name) all.bytes (λ bytes. graph_of blocks bytes ≡ Ok g) all.reported file

@@ -6,7 +6,7 @@ use Rattle.pt_blocks.specs.declared.blocks.Named.{Named}
 use Rattle.pt_graph.specs.GraphOf.{graph_of}
 use Rattle.pt_history.specs.declared.miss.Miss.{Miss}
 use Rattle.pt_semantics.proofs.Lookups.{none_some}
-use Rattle.pt_io.specs.Calls.{Contents, Writing}
+use Rattle.pt_io.specs.Calls.{Contents, SinkCall}
 use Rattle.pt_turn.specs.Platforms.{PlatformView}
 use Rattle.pt_run.specs.declared.fault.Fault.{Fault}
 use Rattle.pt_run.specs.declared.fault.Fault.TheVariants as fault
@@ -19,7 +19,7 @@ pub of_none : (left : Leaves) (g : Graph) → HasNothing left → AreOfGraph lef
 of_none left g h i v at = absurd (none_some v (ap (λ ps. slice_get ps i) (sym h.1) ∙ at))
 
 -- what is reported over a graph that was read from the file of that name
-pub reported_file : (c : Command) (outcome : Option Fault) (misses : List Miss) (platforms : List PlatformView) (contents : Contents) (blocks : List Named) (name : List ℕ) (g : Graph) (w : Writing) → IfSome (contents name) (λ bytes. graph_of blocks bytes ≡ Ok g) → AreOfGraph platforms g → Reports outcome misses (Some g) w → ReportsBy outcome misses platforms (Some (c, name)) contents blocks w
+pub reported_file : (c : Command) (outcome : Option Fault) (misses : List Miss) (platforms : List PlatformView) (contents : Contents) (blocks : List Named) (name : List ℕ) (g : Graph) (w : SinkCall) → IfSome (contents name) (λ bytes. graph_of blocks bytes ≡ Ok g) → AreOfGraph platforms g → Reports outcome misses (Some g) w → ReportsBy outcome misses platforms (Some (c, name)) contents blocks w
 reported_file c None misses platforms contents blocks name g w read of h = (g, read, (of, h))
 reported_file c (Some fault.Memory) misses platforms contents blocks name g w read of h = tt
 reported_file c (Some fault.Usage) misses platforms contents blocks name g w read of h = h

@@ -15,7 +15,7 @@ use Rattle.pt_semantics.specs.Meaning.{IsMeaning}
 use Rattle.pt_semantics.specs.Ranks.{AreRanks}
 use Rattle.pt_semantics.specs.Tables.{tables_text}
 use Rattle.pt_semantics.proofs.Acyclic.{ranks_are_one}
-use Rattle.pt_semantics.proofs.Lookups.{none_some, same_some}
+use Rattle.pt_semantics.proofs.Lookups.{none_some}
 use Rattle.pt_laws.proofs.Unique.{meaning_is_one}
 use Rattle.pt_causality.specs.Ranked.{level_of, rank_of}
 use Rattle.pt_offsets.specs.Plans.{Parts}
@@ -31,8 +31,7 @@ use Rattle.pt_io.specs.Calls.{Contents}
 use Rattle.pt_sensors.specs.Places.{of_run}
 use Rattle.pt_sensors.specs.Recorded.{AreRows, RowsOfKind}
 use Rattle.pt_run.specs.RunsAgreeing.{FinishedRunsAgree, RunsAgree, ReportsSensors}
-use Rattle.pt_turn.specs.declared.fault.TurnFault.{TurnFault}
-use Rattle.pt_run.specs.Readings.{Clocking}
+use Rattle.pt_run.specs.Readings.{RunClocks}
 use Rattle.pt_run.specs.Runs.{IsFinishedRun, log_if}
 
 -- a file with known content has one list of rows
@@ -94,7 +93,7 @@ record Shows (contents : Contents) (g : Graph) (log : Bool) (platforms : List Pl
   graphs : (i : ℕ) (v : PlatformView) → slice_get platforms i ≡ Some v → v.plan.graph ≡ g
   count : length platforms ≡ length g.platforms
 
-shows : (contents : Contents) (c : Clocking) (plan : Parts) (log : Bool) (platforms : List PlatformView) (misses : List Miss) (text : List ℕ) → IsFinishedRun contents c plan log platforms misses text → Shows contents plan.graph log platforms misses text
+shows : (contents : Contents) (c : RunClocks) (plan : Parts) (log : Bool) (platforms : List PlatformView) (misses : List Miss) (text : List ℕ) → IsFinishedRun contents c plan log platforms misses text → Shows contents plan.graph log platforms misses text
 shows contents c plan log platforms misses text h = record {
   rank = rank_of plan.ranks;
   ranks = h.run.admitted.ranks;
@@ -129,7 +128,7 @@ module _ (contents : Contents) (g : Graph) (log : Bool) (platforms others : List
   both = (texts, all_missed)
 
 -- finished runs with the same histories
-pub texts_agree : (contents : Contents) (c d : Clocking) (plan other : Parts) (log : Bool) (platforms others : List PlatformView) (misses missed : List Miss) (text written : List ℕ) → plan.graph ≡ other.graph → ReportsSensors contents plan.graph → ((i : ℕ) → histories_of platforms i ≡ histories_of others i) →
+pub texts_agree : (contents : Contents) (c d : RunClocks) (plan other : Parts) (log : Bool) (platforms others : List PlatformView) (misses missed : List Miss) (text written : List ℕ) → plan.graph ≡ other.graph → ReportsSensors contents plan.graph → ((i : ℕ) → histories_of platforms i ≡ histories_of others i) →
     IsFinishedRun contents c plan log platforms misses text → IsFinishedRun contents d other log others missed written → (text ≡ written) × (misses ≡ missed)
 texts_agree contents c d plan other log platforms others misses missed text written same reported alike h k =
     both contents plan.graph log platforms others misses missed text written reported alike

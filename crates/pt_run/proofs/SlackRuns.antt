@@ -26,7 +26,7 @@ use Rattle.pt_semantics.specs.Rounds.{IsTimely, IsWholeRun}
 use Rattle.pt_semantics.specs.Rows.{FitRows}
 use Rattle.pt_semantics.specs.Turn.{Turn, joined}
 use Rattle.pt_semantics.specs.Units.{at_input, first_port, unit_of}
-use Rattle.pt_semantics.specs.Visits.{Together}
+use Rattle.pt_semantics.specs.Visits.{RunState}
 use Rattle.pt_semantics.proofs.LawfulEdges.{wired}
 use Rattle.pt_semantics.proofs.Lookups.{Each-in}
 use Rattle.pt_paced_laws.proofs.PacedRuns.{missed_when_paced, timely_when_paced}
@@ -96,7 +96,7 @@ module _ (g : Graph) (slack : ℕ → ℕ) (least : AreLeastSlacks g slack) wher
       past limit time own given asked reading is same least late soon = omega (arith, is, same, least)
 
   -- what holds of the graph of a plan
-  record Known (plan : Parts) (h : Graph) (rows : ℕ → List Row) (y : Together) : Type 0 where
+  record Known (plan : Parts) (h : Graph) (rows : ℕ → List Row) (y : RunState) : Type 0 where
     pub lawful : IsLawful h
     pub levels : AreLevels h (level_of plan.ranks)
     pub feasible : IsFeasible h

@@ -15,7 +15,7 @@ use Rattle.pt_sensors.specs.declared.fault.RowFault.{RowFault}
 use Rattle.pt_sensors.specs.declared.recorded_fault.LateRows.{LateRows}
 use Rattle.pt_sensors.specs.declared.recorded_fault.LateRows.TheVariants.{Refused, Taken}
 use Rattle.pt_sensors.specs.Asked.{Asks, ReadFails, files_before}
-use Rattle.pt_io.specs.Calls.{Contents, Reading, Writing}
+use Rattle.pt_io.specs.Calls.{Contents, SourceCall, SinkCall}
 use Rattle.pt_sensors.specs.Places.{of_run}
 use Rattle.pt_sensors.specs.Recorded.{AllPass, AreRows, SensorFails, SensorLate, SensorUnread}
 use Rattle.pt_slacks.specs.Text.{IsSlacked}
@@ -91,9 +91,9 @@ module _ (contents : Contents) (a : Answer) (Goal : Option Fault → Type 0) whe
       on rest.0 rows rest.1 rest.2 at in_time fact)))
 
 -- The same stage, after other files were asked for.
-module _ (o : Option Fault) (left : Leaves) (r q : Reading) (w : Writing) where
+module _ (o : Option Fault) (left : Leaves) (r q : SourceCall) (w : SinkCall) where
   -- an answer, by what was read
-  abbrev at : Reading → Answer
+  abbrev at : SourceCall → Answer
   at z = record { fault = o; left = left; read = z; wrote = w }
 
   on_cycles : (g : Graph) (Then Other : Type 0) → (Then → Other) → AfterCycles g (at r) Then → AfterCycles g (at q) Other
@@ -139,11 +139,11 @@ module _ (o : Option Fault) (left : Leaves) (r q : Reading) (w : Writing) where
   on_memory Then Other on (inr h) = inr (on h)
 
 -- the graph file was asked for before, and it defines this graph
-module _ (contents : Contents) (blocks : List Named) (name : List ℕ) (g : Graph) (read : IfSome (contents name) (λ bytes. graph_of blocks bytes ≡ Ok g)) (o : Option Fault) (left : Leaves) (first asked now : Option (List (List ℕ))) (start before last : ℕ) (w : Writing) (asks : Asks first asked (name ∷ [])) (grew : start ≤ before) where
-  abbrev inner : Reading
+module _ (contents : Contents) (blocks : List Named) (name : List ℕ) (g : Graph) (read : IfSome (contents name) (λ bytes. graph_of blocks bytes ≡ Ok g)) (o : Option Fault) (left : Leaves) (first asked now : Option (List (List ℕ))) (start before last : ℕ) (w : SinkCall) (asks : Asks first asked (name ∷ [])) (grew : start ≤ before) where
+  abbrev inner : SourceCall
   inner = record { asked_before = asked; asked_now = now; before = before; now = last }
 
-  abbrev outer : Reading
+  abbrev outer : SourceCall
   outer = record { asked_before = first; asked_now = now; before = start; now = last }
 
   unread : (late : LateRows) (actor : ℕ) → SensorUnread late contents g actor [] inner → SensorUnread late contents g actor (name ∷ []) outer

@@ -25,13 +25,13 @@ use Rattle.pt_fixed_order.specs.Outcome.{LastVisitEnds}
 use Rattle.pt_words.specs.declared.orders.ClockChoice.TheVariants.{Step}
 use Rattle.pt_io.specs.Calls.{Contents}
 use Rattle.pt_sensors.specs.Places.{of_run}
-use Rattle.pt_run.specs.Readings.{Clocking, ReadAs, ReadBy, ReadBySteps}
+use Rattle.pt_run.specs.Readings.{RunClocks, ReadAs, ReadBy, ReadBySteps}
 use Rattle.pt_run.specs.Runs.{IsOutcomeOver}
 use Rattle.pt_run.specs.RunsAgreeing.{AreFewReadings, StepRunsAgree, ReportsSensors}
 use Rattle.pt_run.proofs.OneStop.{StopAlike, stop_alike, stop_one}
 use Rattle.pt_run.proofs.RunsAgreeing.{same_rows, texts_agree}
 
-by_steps : (c : Clocking) (start step : ℕ) (plan : Parts) (rows : ℕ → List Row) (platforms : List PlatformView) (fault : Option (ℕ × TurnFault)) → c.choice ≡ Step start step → ReadBy c plan rows platforms fault → ReadBySteps start step plan rows platforms fault
+by_steps : (c : RunClocks) (start step : ℕ) (plan : Parts) (rows : ℕ → List Row) (platforms : List PlatformView) (fault : Option (ℕ × TurnFault)) → c.choice ≡ Step start step → ReadBy c plan rows platforms fault → ReadBySteps start step plan rows platforms fault
 by_steps c start step plan rows platforms fault e read = subst (λ choice. ReadAs choice c plan rows platforms fault) e read
 
 pub none_past : (platforms : List PlatformView) (i : ℕ) → length platforms ≤ i → histories_of platforms i ≡ []
@@ -71,7 +71,7 @@ module _ (start step : ℕ) (plan : Parts) (rows : ℕ → List Row) (platforms 
   alike i lt = stop_alike in_turn.0.made fault stop (subst (λ made. LastVisitEnds made fault) (one i lt).0 h.in_turn.last) in_turn.1
 
 -- the histories of step runs, and the fault that stopped them
-pub step_runs : (contents : Contents) (start step : ℕ) (c d : Clocking) (plan other : Parts) (platforms others : List PlatformView) (fault stop : Option (ℕ × TurnFault)) → c.choice ≡ Step start step → d.choice ≡ Step start step → plan.graph ≡ other.graph → ReportsSensors contents plan.graph →
+pub step_runs : (contents : Contents) (start step : ℕ) (c d : RunClocks) (plan other : Parts) (platforms others : List PlatformView) (fault stop : Option (ℕ × TurnFault)) → c.choice ≡ Step start step → d.choice ≡ Step start step → plan.graph ≡ other.graph → ReportsSensors contents plan.graph →
     AreFewReadings platforms → AreFewReadings others → IsOutcomeOver contents c plan platforms fault → IsOutcomeOver contents d other others stop → ((i : ℕ) → histories_of platforms i ≡ histories_of others i) × (fault ≡ stop)
 step_runs contents start step c d plan other platforms others fault stop one two graphs reported few small h k =
     let a = by_steps c start step plan (of_run plan.graph h.rows) platforms fault one h.fact.readings in

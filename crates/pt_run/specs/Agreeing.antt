@@ -10,7 +10,7 @@ use Rattle.pt_run.specs.RunsAgreeing.{ReportsSensors}
 use Rattle.pt_run.specs.Written.{GraphWith, IsRun, Leaves}
 
 -- the contents of the graph file and, if it defines a graph, of the file of each sensor are known
-pub record TellsAll (contents : Contents) (blocks : List Named) (name : List ℕ) : Type 0 where
+pub record ReportsAll (contents : Contents) (blocks : List Named) (name : List ℕ) : Type 0 where
   pub bytes : List ℕ
   pub reported : contents name ≡ Some bytes
   pub files : (g : Graph) → graph_of blocks bytes ≡ Ok g → ReportsSensors contents g
@@ -18,6 +18,6 @@ pub record TellsAll (contents : Contents) (blocks : List Named) (name : List ℕ
 -- the text of a paced run, the log included, its misses and its histories depend on these files alone, not on the number of
 -- workers
 abbrev pub RunsAgree : Type 0
-RunsAgree = (workers others : ℕ) (log : Bool) (contents : Contents) (blocks : List Named) (name : List ℕ) (left other : Leaves) (text written : List ℕ) → TellsAll contents blocks name →
+RunsAgree = (workers others : ℕ) (log : Bool) (contents : Contents) (blocks : List Named) (name : List ℕ) (left other : Leaves) (text written : List ℕ) → ReportsAll contents blocks name →
     GraphWith contents blocks name (λ g. IsRun contents g workers Paced log left text) → GraphWith contents blocks name (λ g. IsRun contents g others Paced log other written) →
     (text ≡ written) × (left.misses ≡ other.misses) × ((i : ℕ) → histories_of left.platforms i ≡ histories_of other.platforms i)

@@ -4,7 +4,7 @@ use Rattle.pt_types.specs.declared.graph.Graph.{Graph}
 use Rattle.pt_types.specs.declared.graph.Actor.{Actor}
 use Rattle.pt_blocks.specs.declared.blocks.Named.{Named}
 use Rattle.pt_sensors.specs.Asked.{Asks, AsksOrNot, sensor_files}
-use Rattle.pt_io.specs.Calls.{Contents, Reading}
+use Rattle.pt_io.specs.Calls.{Contents, SourceCall}
 use Rattle.pt_run.specs.declared.fault.Fault.{Fault}
 use Rattle.pt_run.specs.declared.fault.Fault.TheVariants as fault
 use Rattle.pt_words.specs.declared.orders.Command.{Command}
@@ -56,7 +56,7 @@ actors_for Slacks g = []
 actors_for _ g = g.actors
 
 -- of each order: no file for a made input, the graph file alone for `migrate`, and one more at the end of an audit or a replay
-abbrev pub AsksOf : Option Fault → Option Order → Contents → List Named → Reading → Type 0
+abbrev pub AsksOf : Option Fault → Option Order → Contents → List Named → SourceCall → Type 0
 AsksOf outcome None contents blocks r = Asks r.asked_before r.asked_now []
 AsksOf outcome (Some (over command name)) contents blocks r = AsksFrom outcome contents blocks name (actors_for command) [] r.asked_before r.asked_now
 AsksOf outcome (Some (make number workers)) contents blocks r = Asks r.asked_before r.asked_now []

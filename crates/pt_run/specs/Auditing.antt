@@ -4,7 +4,7 @@ use Rattle.pt_types.specs.declared.graph.Graph.{Graph}
 use Rattle.pt_types.specs.declared.rows.Row.{Row}
 use Rattle.pt_offsets.specs.Plans.{Parts}
 use Rattle.pt_sensors.specs.Asked.{ReadFails}
-use Rattle.pt_io.specs.Calls.{Contents, Reading}
+use Rattle.pt_io.specs.Calls.{Contents, SourceCall}
 use Rattle.pt_audit.specs.LawfulLogs.{IsLawfulLog}
 use Rattle.pt_audit.specs.Verdicts.{IsHead, IsVerdict}
 use Rattle.pt_audit.specs.declared.verdict.Verdict.{Verdict}
@@ -43,5 +43,5 @@ abbrev pub OnLog : Contents → List ℕ → (Parts → (ℕ → List Row) → L
 OnLog contents log Fact plan rows = IfSome (contents log) (Fact plan rows)
 
 -- the last file, a log or a recording, could not be read: it was asked for after the files in `others` and those of all sensors
-abbrev pub LastFails : Graph → List (List ℕ) → List ℕ → Reading → Type 0
+abbrev pub LastFails : Graph → List (List ℕ) → List ℕ → SourceCall → Type 0
 LastFails g others log r = ReadFails (others ++ all_sensors g) log r

@@ -1,5 +1,5 @@
 -- A cause that several commands share, and what a call writes.
-use Rattle.std.specs.Prelude.{◌*◌, ℕ, List, length, Option}
+use Rattle.std.specs.Prelude.{◌*◌, ℕ, List, length}
 use Rattle.pt_types.specs.declared.graph.Graph.{Graph}
 use Rattle.pt_types.specs.declared.rows.Row.{Row}
 use Rattle.pt_run.specs.Written.{IsTooLong}

@@ -13,7 +13,7 @@ use Rattle.pt_semantics.specs.Offsets.{IsFeasible}
 use Rattle.pt_semantics.specs.Parts.{parts}
 use Rattle.pt_paced_laws.specs.Schedule.{IsMissedByMeaning}
 use Rattle.pt_sensors.specs.declared.recorded_fault.LateRows.TheVariants.{Refused}
-use Rattle.pt_io.specs.Calls.{Contents, Reading, Writing}
+use Rattle.pt_io.specs.Calls.{Contents, SourceCall, SinkCall}
 use Rattle.pt_sensors.specs.Recorded.{AllPass, AreRows}
 use Rattle.pt_run.specs.RunsAgreeing.{ReportsSensors}
 use Rattle.pt_turn.specs.Platforms.{PlatformView, state_at}
@@ -63,7 +63,7 @@ StatusIsMeant status g firings =
     ⊎ (status ≡ 9)))
 
 -- for a paced run of such a program, if neither the source's nor the sink's count of faults rose
-abbrev pub IsComplete : ℕ → Option Order → Contents → List Named → Reading → Writing → Type 0
+abbrev pub IsComplete : ℕ → Option Order → Contents → List Named → SourceCall → SinkCall → Type 0
 IsComplete status order contents blocks r w = (workers : ℕ) (log : Bool) (name : List ℕ) (g : Graph) (firings : List ActorFiring) →
     order ≡ Some (over (Run workers Paced log) name) → CanRun contents blocks name g firings → (Rose r.before r.now → ⊥) → (Rose w.before w.now → ⊥) → StatusIsMeant status g firings
 
@@ -81,6 +81,6 @@ EndsAsShown (Some Memory) left g = Unit {0}
 EndsAsShown (Some f) left g = ⊥
 
 -- so ends a run that can begin, by whatever clock, if neither count rose
-abbrev pub IsCompleteByAnyClock : Option Fault → Leaves → Option Order → Contents → List Named → Reading → Writing → Type 0
+abbrev pub IsCompleteByAnyClock : Option Fault → Leaves → Option Order → Contents → List Named → SourceCall → SinkCall → Type 0
 IsCompleteByAnyClock outcome left order contents blocks r w = (workers : ℕ) (clock : ClockChoice) (log : Bool) (name : List ℕ) (g : Graph) →
     order ≡ Some (over (Run workers clock log) name) → CanBegin contents blocks name g → (Rose r.before r.now → ⊥) → (Rose w.before w.now → ⊥) → EndsAsShown outcome left g

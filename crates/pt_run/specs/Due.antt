@@ -21,7 +21,7 @@ use Rattle.pt_sensors.specs.declared.fault.RowFault.{RowFault}
 use Rattle.pt_sensors.specs.declared.recorded_fault.LateRows.{LateRows}
 use Rattle.pt_sensors.specs.declared.recorded_fault.LateRows.TheVariants.{Refused, Taken}
 use Rattle.pt_sensors.specs.Asked.{ReadFails}
-use Rattle.pt_io.specs.Calls.{Contents, Reading, Writing}
+use Rattle.pt_io.specs.Calls.{Contents, SourceCall, SinkCall}
 use Rattle.pt_sensors.specs.Places.{of_run}
 use Rattle.pt_sensors.specs.Recorded.{AllPass, AreRows, SensorFails, SensorLate, SensorUnread}
 use Rattle.pt_air.specs.declared.fault.AirFault.{AirFault}
@@ -44,21 +44,21 @@ use Rattle.pt_run.specs.Migrating.{IsMigrated}
 use Rattle.pt_run.specs.Replaying.{LeavesReplay, OnAir, has_replayed}
 use Rattle.pt_run.specs.Texts.{left_by}
 use Rattle.pt_words.specs.Grammar.{Order, over, make, migrate, audit, replay}
-use Rattle.pt_run.specs.Written.{FitOnAll, GraphWith, HasNothing, IsChecked, IsTables, Leaves, clocking, has_run, leaves_nothing, stop_of}
+use Rattle.pt_run.specs.Written.{FitOnAll, GraphWith, HasNothing, IsChecked, IsTables, Leaves, run_clocks, has_run, leaves_nothing, stop_of}
 
 -- the answer of a call: its fault, what it leaves, and the source and the sink before it and after it
 pub record Answer : Type 0 where
   pub fault : Option Fault
   pub left : Leaves
-  pub read : Reading
-  pub wrote : Writing
+  pub read : SourceCall
+  pub wrote : SinkCall
 
 -- the answer of a call that ended with this fault or without one, left this, and read and wrote so
-abbrev pub as_answer : Option Fault → Leaves → Reading → Writing → Answer
+abbrev pub as_answer : Option Fault → Leaves → SourceCall → SinkCall → Answer
 as_answer outcome left r w = record { fault = outcome; left = left; read = r; wrote = w }
 
 -- the answer of a call that ended so and read no clock that was handed in
-abbrev pub answer_by : Ending → Reading → Writing → Answer
+abbrev pub answer_by : Ending → SourceCall → SinkCall → Answer
 answer_by o r w = as_answer o.fault (left_by o) r w
 
 -- the call is refused with this fault: it leaves nothing and writes nothing
@@ -89,19 +89,19 @@ Answers text (Ok made) a = OnlyPuts a (λ put. put ≡ text made)
 Answers text (Err f) a = RefusedWith f a
 
 -- a call that is refused with this fault after this reading ends as is due, unless memory runs out
-abbrev pub RefusesAsDue : Fault → Reading → (Answer → Type 0) → Type 0
+abbrev pub RefusesAsDue : Fault → SourceCall → (Answer → Type 0) → Type 0
 RefusesAsDue f r Due = (a : Answer) → a.read ≡ r → RefusedWith f a → UnlessMemory a Due
 
 -- so does a call that is stopped with this fault and leaves these platforms
-abbrev pub StopsAsDue : Fault → List PlatformView → Reading → (Answer → Type 0) → Type 0
+abbrev pub StopsAsDue : Fault → List PlatformView → SourceCall → (Answer → Type 0) → Type 0
 StopsAsDue f platforms r Due = (a : Answer) → a.read ≡ r → StoppedWith f platforms a → UnlessMemory a Due
 
 -- a call that ends so is refused, as is due after any reading, unless memory runs out
 abbrev pub EndsRefused : Ending → (Answer → Type 0) → Type 0
-EndsRefused o Due = (left_by o ≡ leaves_nothing) × (f : Fault) × (o.fault ≡ Some f) × ((r : Reading) → RefusesAsDue f r Due)
+EndsRefused o Due = (left_by o ≡ leaves_nothing) × (f : Fault) × (o.fault ≡ Some f) × ((r : SourceCall) → RefusesAsDue f r Due)
 
 -- a call that answers so after this reading ends as is due, unless memory runs out
-abbrev pub AnswersAsDue : {X : Type 0} → (X → List ℕ) → Result X Fault → Reading → (Answer → Type 0) → Type 0
+abbrev pub AnswersAsDue : {X : Type 0} → (X → List ℕ) → Result X Fault → SourceCall → (Answer → Type 0) → Type 0
 AnswersAsDue text made r Due = (a : Answer) → a.read ≡ r → Answers text made a → UnlessMemory a Due
 
 -- The stages.
@@ -155,7 +155,7 @@ AfterAdmission contents g others a Then =
 -- a run: all was written, or a write failed, or a platform stopped it
 pub record HasRunBy (workers : ℕ) (clock : ClockChoice) (log : Bool) (a : Answer) (plan : Parts) (rows : ℕ → List Row) : Type 0 where
   pub ran : has_run a.fault ≡ true
-  pub leaves : LeavesRun (clocking workers clock a.left) log a.fault a.left a.wrote plan rows
+  pub leaves : LeavesRun (run_clocks workers clock a.left) log a.fault a.left a.wrote plan rows
   pub failed : a.fault ≡ Some fault.Write → Rose a.wrote.before a.wrote.now
   -- what more is known of a paced run
   pub paced : clock ≡ Paced → IsPacedOutcome plan (level_of plan.ranks) rows a.left.platforms (stop_of a.fault)

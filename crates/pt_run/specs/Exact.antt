@@ -4,7 +4,7 @@ use Rattle.std.specs.Prelude.{◌≡◌, ◌⊎◌, ℕ, List, Option, Some, Non
 use Rattle.pt_blocks.specs.Blocks.{AreBlocks}
 use Rattle.pt_blocks.specs.declared.blocks.Named.{Named}
 use Rattle.pt_io.specs.Calls.{Contents}
-use Rattle.pt_run.specs.Agreeing.{TellsAll}
+use Rattle.pt_run.specs.Agreeing.{ReportsAll}
 use Rattle.pt_run.specs.Due.{Answer, IsDue}
 use Rattle.pt_words.specs.Grammar.{Order, over, make, migrate, audit, replay}
 use Rattle.pt_run.specs.declared.fault.Fault.{Fault}
@@ -33,16 +33,16 @@ GraphKnown (replay name air workers log) contents = IsKnown contents name
 
 -- and those of its sensors' files
 abbrev pub RowsKnown : Order → Contents → List Named → Type 0
-RowsKnown (over command name) contents blocks = TellsAll contents blocks name
+RowsKnown (over command name) contents blocks = ReportsAll contents blocks name
 RowsKnown (make number workers) contents blocks = ⊥
 RowsKnown (migrate name) contents blocks = ⊥
-RowsKnown (audit name log) contents blocks = TellsAll contents blocks name
-RowsKnown (replay name air workers log) contents blocks = TellsAll contents blocks name
+RowsKnown (audit name log) contents blocks = ReportsAll contents blocks name
+RowsKnown (replay name air workers log) contents blocks = ReportsAll contents blocks name
 
 -- and that of the log or of the recording
 abbrev pub LastKnown : Order → Contents → List Named → Type 0
-LastKnown (audit name log) contents blocks = TellsAll contents blocks name × IsKnown contents log
-LastKnown (replay name air workers log) contents blocks = TellsAll contents blocks name × IsKnown contents air
+LastKnown (audit name log) contents blocks = ReportsAll contents blocks name × IsKnown contents log
+LastKnown (replay name air workers log) contents blocks = ReportsAll contents blocks name × IsKnown contents air
 LastKnown _ contents blocks = ⊥
 
 -- the files on which this answer depends are known; no files decide any other answer
@@ -57,7 +57,7 @@ IsDecided (Some (fault.Long None)) order contents blocks = RowsKnown order conte
 IsDecided (Some (fault.Unlawful v)) order contents blocks = LastKnown order contents blocks
 IsDecided (Some (fault.Air f)) order contents blocks = LastKnown order contents blocks
 IsDecided None (over Check name) contents blocks = IsKnown contents name
-IsDecided None (over Meaning name) contents blocks = TellsAll contents blocks name
+IsDecided None (over Meaning name) contents blocks = ReportsAll contents blocks name
 IsDecided None (over Slacks name) contents blocks = IsKnown contents name × AreBlocks blocks
 IsDecided None (migrate name) contents blocks = IsKnown contents name
 IsDecided None (audit name log) contents blocks = LastKnown (audit name log) contents blocks

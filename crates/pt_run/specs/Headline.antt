@@ -32,12 +32,12 @@ use Rattle.pt_words.specs.declared.orders.ClockChoice.TheVariants.{Paced}
 use Rattle.pt_run.specs.declared.fault.Fault.{Fault}
 use Rattle.pt_run.specs.declared.fault.Fault.TheVariants as fault
 use Rattle.pt_words.specs.declared.orders.Command.TheVariants.{Run}
-use Rattle.pt_io.specs.Calls.{Writing}
+use Rattle.pt_io.specs.Calls.{SinkCall}
 use Rattle.pt_words.specs.Grammar.{Order, over}
 use Rattle.pt_run.specs.Written.{has_run, stop_of}
 
 -- what the files of a call say: which graph the graph file with a name defines; which rows the sensors of a graph have up to its
--- horizon, none of which is late; and which row is the first late one, by its sensor, its number, when it is seen and by when it should be
+-- horizon, by the number of the actor, none of which is late; and which row is the first late one, by its sensor, its number, when it is seen and by when it should be
 pub record Inputs : Type 1 where
   pub graph : List ℕ → Graph → Type 0
   pub rows : Graph → (ℕ → List Row) → Type 0
@@ -87,7 +87,7 @@ pub record PutsTables (g : Graph) (rank : ℕ → ℕ) (rows : ℕ → List Row)
   pub held : log ≡ true → Each (Each IsHeldTurn) histories
 
 -- what a run of this graph over these rows leaves and writes, by how the call ended
-pub record LeavesTurns (log : Bool) (outcome : Option Fault) (platforms : List AtEnd) (misses : List Miss) (w : Writing) (g : Graph) (rank level : ℕ → ℕ) (rows : ℕ → List Row) : Type 0 where
+pub record LeavesTurns (log : Bool) (outcome : Option Fault) (platforms : List AtEnd) (misses : List Miss) (w : SinkCall) (g : Graph) (rank level : ℕ → ℕ) (rows : ℕ → List Row) : Type 0 where
   pub admitted : IsAdmittedWith g rank level
   pub kept : HaveHistories g level rows platforms (stop_of outcome)
   -- all was written, and the misses are those of the recorded turns; or a write failed after a prefix
@@ -104,7 +104,7 @@ ByReadings = Graph → (ℕ → ℕ) → (ℕ → List Row) → Option (ℕ × T
 
 -- a run over the graph file with this name: the graph that it defines, the ranks and levels of its actors, and its rows; what the run
 -- leaves and writes; and by which readings it went
-pub record HasRunOn (inputs : Inputs) (By : ByReadings) (name : List ℕ) (log : Bool) (outcome : Option Fault) (platforms : List AtEnd) (misses : List Miss) (w : Writing) : Type 0 where
+pub record HasRunOn (inputs : Inputs) (By : ByReadings) (name : List ℕ) (log : Bool) (outcome : Option Fault) (platforms : List AtEnd) (misses : List Miss) (w : SinkCall) : Type 0 where
   pub graph : Graph
   pub rank : ℕ → ℕ
   pub level : ℕ → ℕ
@@ -116,13 +116,13 @@ pub record HasRunOn (inputs : Inputs) (By : ByReadings) (name : List ℕ) (log :
 
 -- what holds of a run: of what it leaves, if it has platforms; else it leaves nothing and nothing is written. A paced run never ends
 -- with a late message. If the fault is a late row, the row that is named is the first late one
-pub record Headline (inputs : Inputs) (By : ByReadings) (name : List ℕ) (clock : ClockChoice) (log : Bool) (outcome : Option Fault) (platforms : List AtEnd) (misses : List Miss) (w : Writing) : Type 0 where
+pub record Headline (inputs : Inputs) (By : ByReadings) (name : List ℕ) (clock : ClockChoice) (log : Bool) (outcome : Option Fault) (platforms : List AtEnd) (misses : List Miss) (w : SinkCall) : Type 0 where
   pub run : has_run outcome ≡ true → HasRunOn inputs By name log outcome platforms misses w
   pub nothing_else : has_run outcome ≡ false → (platforms ≡ []) × (misses ≡ []) × (w.written_now ≡ w.written_before)
   pub late_message : (platform actor : ℕ) (tag : Tag) (reading limit : ℕ) → outcome ≡ Some (fault.LateMessage platform actor tag reading limit) → clock ≢ Paced
   pub late_row : (actor row seen limit : ℕ) → outcome ≡ Some (fault.LateRow actor row seen limit) → (g : Graph) × inputs.graph name g × inputs.late_row g actor row seen limit
 
 -- it holds of each run that the order asks for, by the number of its workers and its clock
-abbrev pub IsHeadline : Inputs → (ℕ → ClockChoice → ByReadings) → Option Order → Option Fault → List AtEnd → List Miss → Writing → Type 0
+abbrev pub IsHeadline : Inputs → (ℕ → ClockChoice → ByReadings) → Option Order → Option Fault → List AtEnd → List Miss → SinkCall → Type 0
 IsHeadline inputs By order outcome platforms misses w =
     (workers : ℕ) (clock : ClockChoice) (log : Bool) (name : List ℕ) → order ≡ Some (over (Run workers clock log) name) → Headline inputs (By workers clock) name clock log outcome platforms misses w

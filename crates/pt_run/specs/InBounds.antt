@@ -1,5 +1,5 @@
 -- What holds of a replay whose recording breaks no stated bound: it does what the paced run does.
-use Rattle.std.specs.Prelude.{◌≡◌, ◌↔◌, ◌++◌, ℕ, Bool, List, None, Ok, Option, Some, option_map}
+use Rattle.std.specs.Prelude.{◌≡◌, ◌↔◌, ◌++◌, ℕ, Bool, List, None, Ok, Option, Some}
 use Rattle.pt_io.specs.Causes.{Appends, Rose}
 use Rattle.pt_types.specs.declared.graph.Graph.{Graph}
 use Rattle.pt_types.specs.declared.rows.Row.{Row}
@@ -17,7 +17,7 @@ use Rattle.pt_turn.specs.declared.fault.TurnFault.{TurnFault}
 use Rattle.pt_turn.specs.All.{histories_of}
 use Rattle.pt_turn.specs.Platforms.{PlatformView, state_at}
 use Rattle.pt_rounds.specs.Outcome.{InMeaning, IsLongOn}
-use Rattle.pt_io.specs.Calls.{Contents, Reading, Writing}
+use Rattle.pt_io.specs.Calls.{Contents, SourceCall, SinkCall}
 use Rattle.pt_words.specs.declared.orders.ClockChoice.TheVariants.{Paced}
 use Rattle.pt_types.specs.declared.air.Air.{Air}
 use Rattle.pt_air.specs.AirOf.{air_of}
@@ -49,7 +49,7 @@ pub record DoAsPaced (plan : Parts) (rows : ℕ → List Row) (platforms : List 
 
 -- a replay does so if no row of its recording breaks a stated bound
 abbrev pub ReplaysInBoundsDoAsPaced : Type 0
-ReplaysInBoundsDoAsPaced = (contents : Contents) (air : List ℕ) (log : Bool) (outcome : Option Fault) (left : Leaves) (w : Writing) (plan : Parts) (rows : ℕ → List Row) →
+ReplaysInBoundsDoAsPaced = (contents : Contents) (air : List ℕ) (log : Bool) (outcome : Option Fault) (left : Leaves) (w : SinkCall) (plan : Parts) (rows : ℕ → List Row) →
     (on : OnAir contents air (LeavesReplay log outcome left w) plan rows) → on.recorded.breach ≡ None → DoAsPaced plan rows left.platforms (stop_of_replay outcome)
 
 -- the files are known and a replay within the bounds can run: these firings are the meaning, and no row of the recording breaks a
@@ -63,7 +63,7 @@ pub record CanReplay (contents : Contents) (blocks : List Named) (name air : Lis
   pub in_bounds : recorded.breach ≡ None
 
 -- such a replay ends as the meaning says, as a paced run does, if neither the source's nor the sink's count of faults rose
-abbrev pub IsCompleteInBounds : ℕ → Option Order → Contents → List Named → Reading → Writing → Type 0
+abbrev pub IsCompleteInBounds : ℕ → Option Order → Contents → List Named → SourceCall → SinkCall → Type 0
 IsCompleteInBounds status order contents blocks r w = (workers : ℕ) (log : Bool) (name air : List ℕ) (g : Graph) (firings : List ActorFiring) →
     order ≡ Some (replay name air workers log) → CanReplay contents blocks name air g firings → (Rose r.before r.now → ⊥) → (Rose w.before w.now → ⊥) → StatusIsMeant status g firings
 

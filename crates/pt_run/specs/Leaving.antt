@@ -12,8 +12,8 @@ use Rattle.pt_causality.specs.Ranked.{rank_of}
 use Rattle.pt_offsets.specs.Plans.{Parts}
 use Rattle.pt_turn.specs.Platforms.{PlatformView}
 use Rattle.pt_monitors.specs.Platforms.{missed_by}
-use Rattle.pt_io.specs.Calls.{Contents, Writing}
-use Rattle.pt_run.specs.Readings.{Clocking, ReadBy}
+use Rattle.pt_io.specs.Calls.{Contents, SinkCall}
+use Rattle.pt_run.specs.Readings.{RunClocks, ReadBy}
 use Rattle.pt_run.specs.Runs.{AreHeldIf, IsKept, RunOver, log_if}
 use Rattle.pt_run.specs.declared.fault.Fault.{Fault}
 use Rattle.pt_run.specs.declared.fault.Fault.TheVariants as fault
@@ -37,7 +37,7 @@ pub record PutsMeaning (plan : Parts) (rows : ℕ → List Row) (log : Bool) (pl
 -- what a run of this plan over these rows leaves and writes. The platforms of the graph have legal histories from their rows
 -- to their states, took only what was sent, and are finished and took all of it unless one stopped the run, as its history
 -- shows (`IsKept`); they went by the readings of the run's clock (`ReadBy`)
-pub record LeavesRun (c : Clocking) (log : Bool) (outcome : Option Fault) (left : Leaves) (w : Writing) (plan : Parts) (rows : ℕ → List Row) : Type 0 where
+pub record LeavesRun (c : RunClocks) (log : Bool) (outcome : Option Fault) (left : Leaves) (w : SinkCall) (plan : Parts) (rows : ℕ → List Row) : Type 0 where
   pub kept : IsKept plan rows left.platforms (stop_of outcome)
   pub readings : ReadBy c plan rows left.platforms (stop_of outcome)
   -- all was written, and the misses are those of the recorded turns; or a write failed after a prefix

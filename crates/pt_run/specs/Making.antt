@@ -7,7 +7,7 @@ use Rattle.pt_causality.specs.Ranked.{level_of, rank_of}
 use Rattle.pt_offsets.specs.Plans.{IsAdmitted, Parts}
 use Rattle.pt_turn.specs.Platforms.{PlatformView}
 use Rattle.pt_monitors.specs.Platforms.{missed_by}
-use Rattle.pt_io.specs.Calls.{Contents, Writing}
+use Rattle.pt_io.specs.Calls.{Contents, SinkCall}
 use Rattle.pt_sensors.specs.Places.{of_run}
 use Rattle.pt_rounds.specs.Outcome.{IsOutcome as IsPacedOutcome}
 use Rattle.pt_make.specs.Input.{made_graph, made_rows}
@@ -30,7 +30,7 @@ pub record IsMadeRun (n : ℕ) (platforms : List PlatformView) (text : List ℕ)
 
 -- what is put on notes: the lines of a run of a made input and those of `migrate` have no names, and the lines of an audit and of a
 -- replay have names as those of a run
-abbrev pub ReportsOf : Option Fault → List Miss → List PlatformView → Option Order → Contents → List Named → Writing → Type 0
+abbrev pub ReportsOf : Option Fault → List Miss → List PlatformView → Option Order → Contents → List Named → SinkCall → Type 0
 ReportsOf outcome misses platforms None contents blocks w = ReportsBy outcome misses platforms None contents blocks w
 ReportsOf outcome misses platforms (Some (over command graph)) contents blocks w = ReportsBy outcome misses platforms (Some (command, graph)) contents blocks w
 ReportsOf outcome misses platforms (Some (make number workers)) contents blocks w = Reports outcome misses None w

@@ -19,7 +19,7 @@ use Rattle.pt_words.specs.declared.orders.ClockChoice.{ClockChoice}
 use Rattle.pt_words.specs.declared.orders.ClockChoice.TheVariants.{Machine, Paced, Step}
 
 -- the clock of a run, the number of its workers, and what the clocks handed in showed before the run and after it
-pub record Clocking : Type 0 where
+pub record RunClocks : Type 0 where
   pub choice : ClockChoice
   pub workers : ℕ
   pub before : List ClockView
@@ -74,11 +74,11 @@ pub record ReadByClocks (workers : ℕ) (before now : List ClockView) (plan : Pa
   pub others : (i : ℕ) → length platforms ≤ i → slice_get now i ≡ slice_get before i
 
 -- the readings that the platforms of a run went by until it ended or this platform stopped it, for each choice of a clock
-abbrev pub ReadAs : ClockChoice → Clocking → Parts → (ℕ → List Row) → List PlatformView → Option (ℕ × TurnFault) → Type 0
+abbrev pub ReadAs : ClockChoice → RunClocks → Parts → (ℕ → List Row) → List PlatformView → Option (ℕ × TurnFault) → Type 0
 ReadAs Paced c plan rows platforms fault = ReadPaced plan rows platforms
 ReadAs (Step start step) c plan rows platforms fault = ReadBySteps start step plan rows platforms fault
 ReadAs Machine c plan rows platforms fault = ReadByClocks c.workers c.before c.now plan rows platforms fault
 
 -- and for the clock that was chosen
-abbrev pub ReadBy : Clocking → Parts → (ℕ → List Row) → List PlatformView → Option (ℕ × TurnFault) → Type 0
+abbrev pub ReadBy : RunClocks → Parts → (ℕ → List Row) → List PlatformView → Option (ℕ × TurnFault) → Type 0
 ReadBy c plan rows platforms fault = ReadAs c.choice c plan rows platforms fault

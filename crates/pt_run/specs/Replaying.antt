@@ -16,7 +16,7 @@ use Rattle.pt_run.specs.Runs.{AreOutputs, RunOver}
 use Rattle.pt_turn.specs.declared.fault.TurnFault.{TurnFault}
 use Rattle.pt_turn.specs.declared.fault.TurnFault.TheVariants as turn
 use Rattle.pt_monitors.specs.Platforms.{missed_by}
-use Rattle.pt_io.specs.Calls.{Contents, Writing}
+use Rattle.pt_io.specs.Calls.{Contents, SinkCall}
 use Rattle.pt_types.specs.declared.air.Air.{Air}
 use Rattle.pt_air.specs.AirOf.{air_of}
 use Rattle.pt_semantics.specs.RecordedTimes.{KeepsBounds}
@@ -58,7 +58,7 @@ NamesBreach _ recorded = Unit {0}
 -- what a replay of this plan over these rows leaves and writes. Its platforms are those of the plan after a replayed run over these
 -- rows, in which messages take their recorded transits and clocks lag as recorded (`IsReplayOutcome`): their histories are legal, they took
 -- only what was sent, and they are finished and took all of it unless one stopped the replay, as its history shows
-pub record LeavesReplay (log : Bool) (outcome : Option Fault) (left : Leaves) (w : Writing) (plan : Parts) (rows : ℕ → List Row) (recorded : Air) : Type 0 where
+pub record LeavesReplay (log : Bool) (outcome : Option Fault) (left : Leaves) (w : SinkCall) (plan : Parts) (rows : ℕ → List Row) (recorded : Air) : Type 0 where
   pub replayed : IsReplayOutcome plan (level_of plan.ranks) rows recorded left.platforms (stop_of_replay outcome)
   -- all was written, and the misses are those of the recorded turns; or a write failed after a prefix
   pub written : outcome ≡ None → PutsMeaning plan rows log left.platforms (Appends w.written_before w.written_now)
@@ -70,11 +70,11 @@ pub record LeavesReplay (log : Bool) (outcome : Option Fault) (left : Leaves) (w
   pub breach : NamesBreach outcome recorded
 
 -- what holds of each replay that the words ask for: of what it leaves, if it ran; else it leaves nothing and nothing is written
-pub record ReplayHeadline (outcome : Option Fault) (left : Leaves) (log : Bool) (contents : Contents) (blocks : List Named) (name air : List ℕ) (w : Writing) : Type 0 where
+pub record ReplayHeadline (outcome : Option Fault) (left : Leaves) (log : Bool) (contents : Contents) (blocks : List Named) (name air : List ℕ) (w : SinkCall) : Type 0 where
   pub run : has_replayed outcome ≡ true → RunWith contents blocks name (OnAir contents air (LeavesReplay log outcome left w))
   pub nothing_else : has_replayed outcome ≡ false → HasNothing left × (w.written_now ≡ w.written_before)
 
-abbrev pub IsReplayHeadline : Option Fault → Leaves → Option Order → Contents → List Named → Writing → Type 0
+abbrev pub IsReplayHeadline : Option Fault → Leaves → Option Order → Contents → List Named → SinkCall → Type 0
 IsReplayHeadline outcome left order contents blocks w = (workers : ℕ) (log : Bool) (name air : List ℕ) → order ≡ Some (replay name air workers log) → ReplayHeadline outcome left log contents blocks name air w
 
 -- A replay of a plan: what is read for it, and how it finishes.

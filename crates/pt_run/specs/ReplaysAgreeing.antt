@@ -12,10 +12,10 @@ use Rattle.pt_turn.specs.declared.fault.TurnFault.{TurnFault}
 use Rattle.pt_turn.specs.All.{histories_of}
 use Rattle.pt_turn.specs.Platforms.{PlatformView}
 use Rattle.pt_turn.specs.Turned.{is_late}
-use Rattle.pt_io.specs.Calls.{Contents, Writing}
+use Rattle.pt_io.specs.Calls.{Contents, SinkCall}
 use Rattle.pt_types.specs.declared.air.Air.{Air}
 use Rattle.pt_replay.specs.Outcome.{IsOutcome as IsReplayOutcome}
-use Rattle.pt_run.specs.Agreeing.{TellsAll}
+use Rattle.pt_run.specs.Agreeing.{ReportsAll}
 use Rattle.pt_run.specs.Due.{Answer, IsDue}
 use Rattle.pt_run.specs.Replaying.{has_replayed, stop_of_replay}
 use Rattle.pt_run.specs.Runs.{log_if}
@@ -34,7 +34,7 @@ ReplaysAgree = (plan other : Parts) (rows : ℕ → List Row) (air : Air) (platf
     IsReplayOutcome plan (level_of plan.ranks) rows air platforms fault → IsReplayOutcome other (level_of other.ranks) rows air others stop → ((i : ℕ) → histories_of platforms i ≡ histories_of others i) × AreStoppedAlike fault stop
 
 -- what was written is the tables of these firings, and these histories as the log if it is asked for
-abbrev pub WritesTables : Writing → Graph → List ActorFiring → Bool → List PlatformView → Type 0
+abbrev pub WritesTables : SinkCall → Graph → List ActorFiring → Bool → List PlatformView → Type 0
 WritesTables w g firings log platforms = Appends w.written_before w.written_now (tables_text g firings ++ log_if log g platforms)
 
 -- two replays leave the same histories and are stopped by the same platform, if any; and if both end without a fault, they miss
@@ -47,6 +47,6 @@ pub record LeaveAlike (log logged : Bool) (a b : Answer) : Type 0 where
 
 -- so do two calls of `replay` that ran over the same known files, whatever their numbers of workers and whether they write the log
 abbrev pub ReplayCallsAgree : Type 0
-ReplayCallsAgree = (workers others : ℕ) (log logged : Bool) (contents : Contents) (blocks : List Named) (name air bytes : List ℕ) (a b : Answer) → TellsAll contents blocks name → contents air ≡ Some bytes →
+ReplayCallsAgree = (workers others : ℕ) (log logged : Bool) (contents : Contents) (blocks : List Named) (name air bytes : List ℕ) (a b : Answer) → ReportsAll contents blocks name → contents air ≡ Some bytes →
     has_replayed a.fault ≡ true → has_replayed b.fault ≡ true →
     IsDue (Some (replay name air workers log)) contents blocks a → IsDue (Some (replay name air others logged)) contents blocks b → LeaveAlike log logged a b

@@ -6,7 +6,7 @@ use Rattle.pt_blocks.specs.declared.blocks.Named.{Named}
 use Rattle.pt_history.specs.declared.miss.Miss.{Miss}
 use Rattle.pt_tables.specs.Misses.{miss_line}
 use Rattle.pt_turn.specs.Platforms.{PlatformView}
-use Rattle.pt_io.specs.Calls.{Contents, Writing}
+use Rattle.pt_io.specs.Calls.{Contents, SinkCall}
 use Rattle.pt_run.specs.declared.fault.Fault.{Fault}
 use Rattle.pt_run.specs.declared.fault.Fault.TheVariants as fault
 use Rattle.pt_words.specs.declared.orders.ClockChoice.TheVariants.{Paced}
@@ -22,11 +22,11 @@ notes_of None misses (Some g) = flat_map (miss_line g) misses
 notes_of None misses None = []
 
 -- a text was put: all of it, or a prefix if a put failed
-abbrev pub IsPut : List ℕ → Writing → Type 0
+abbrev pub IsPut : List ℕ → SinkCall → Type 0
 IsPut text w = Appends w.written_before w.written_now text ⊎ (Rose w.before w.now × AppendsPart w.written_before w.written_now text)
 
 -- the notes of a call on a graph, if there is one; if memory ran out, they may be anything
-abbrev pub Reports : Option Fault → List Miss → Option Graph → Writing → Type 0
+abbrev pub Reports : Option Fault → List Miss → Option Graph → SinkCall → Type 0
 Reports (Some fault.Memory) misses g w = Unit {0}
 Reports outcome misses g w = IsPut (notes_of outcome misses g) w
 
@@ -40,7 +40,7 @@ paced_run = Run 1 Paced false
 
 -- the notes of a call for some words that left these platforms: names in them are those of the graph in the file that the words
 -- name, of which the platforms are
-abbrev pub ReportsBy : Option Fault → List Miss → List PlatformView → Option (Command × List ℕ) → Contents → List Named → Writing → Type 0
+abbrev pub ReportsBy : Option Fault → List Miss → List PlatformView → Option (Command × List ℕ) → Contents → List Named → SinkCall → Type 0
 ReportsBy (Some fault.Memory) misses platforms order contents blocks w = Unit {0}
 ReportsBy (Some fault.Usage) misses platforms order contents blocks w = Reports (Some fault.Usage) misses None w
 ReportsBy (Some (fault.Graph f)) misses platforms order contents blocks w = Reports (Some (fault.Graph f)) misses None w

@@ -27,7 +27,7 @@ use Rattle.pt_confluence.specs.Gathered.{HaveFinished}
 use Rattle.pt_rounds.specs.Outcome.{IsOutcome as IsPacedOutcome}
 use Rattle.pt_sensors.specs.declared.recorded_fault.LateRows.TheVariants.{Refused}
 use Rattle.pt_sensors.specs.declared.recorded_fault.RecordedFault.{RecordedFault}
-use Rattle.pt_io.specs.Calls.{Contents, Reading}
+use Rattle.pt_io.specs.Calls.{Contents, SourceCall}
 use Rattle.pt_sensors.specs.Places.{of_run}
 use Rattle.pt_sensors.specs.Recorded.{AllPass, AreRows, CauseOfRows}
 use Rattle.pt_words.specs.declared.orders.ClockChoice.{ClockChoice}
@@ -39,7 +39,7 @@ use Rattle.pt_run.specs.declared.outcome.Stopped.{Stopped}
 use Rattle.pt_run.specs.Faults.{fault_of_rows, fault_of_turn}
 use Rattle.pt_run.specs.declared.outputs.Outputs.{Outputs}
 use Rattle.pt_io.specs.Clocks.{ClockView}
-use Rattle.pt_run.specs.Readings.{Clocking, EachOf, ReadBy, read_by}
+use Rattle.pt_run.specs.Readings.{RunClocks, EachOf, ReadBy, read_by}
 
 -- the platforms are those of the graph, opened with these rows; each has a legal history that leads to its state; everything
 -- taken was sent, and unless a platform has a fault, everything sent was taken and all are finished
@@ -51,30 +51,30 @@ pub record IsKept (plan : Parts) (rows : ℕ → List Row) (platforms : List Pla
   pub ends : EndsAt plan.graph platforms fault
 
 -- the paced clock
-abbrev pub paced_clocking : ℕ → Clocking
-paced_clocking workers = record { choice = Paced; workers = workers; before = []; now = [] }
+abbrev pub paced_run_clocks : ℕ → RunClocks
+paced_run_clocks workers = record { choice = Paced; workers = workers; before = []; now = [] }
 
 -- clocks of steps
-abbrev pub steps_by : ℕ → ℕ → ℕ → Clocking
+abbrev pub steps_by : ℕ → ℕ → ℕ → RunClocks
 steps_by workers start step = record { choice = Step start step; workers = workers; before = []; now = [] }
 
 -- clocks that were handed in
-abbrev pub clocks_by : ℕ → List ClockView → List ClockView → Clocking
+abbrev pub clocks_by : ℕ → List ClockView → List ClockView → RunClocks
 clocks_by workers before now = record { choice = Machine; workers = workers; before = before; now = now }
 
 -- a clock, with what the clocks that were handed in showed, as far as it reads them
-abbrev pub read_with : ℕ → ClockChoice → List ClockView → List ClockView → Clocking
+abbrev pub read_with : ℕ → ClockChoice → List ClockView → List ClockView → RunClocks
 read_with workers clock before now = record { choice = clock; workers = workers; before = read_by clock before; now = read_by clock now }
 
 -- the platforms of a plan after a run over these rows by its clock, and the fault that stopped the run
-pub record IsOutcomeBy (c : Clocking) (plan : Parts) (rows : ℕ → List Row) (platforms : List PlatformView) (fault : Option (ℕ × TurnFault)) : Type 0 where
+pub record IsOutcomeBy (c : RunClocks) (plan : Parts) (rows : ℕ → List Row) (platforms : List PlatformView) (fault : Option (ℕ × TurnFault)) : Type 0 where
   pub kept : IsKept plan rows platforms fault
   pub readings : ReadBy c plan rows platforms fault
   -- what more is known of a paced run
   pub paced : c.choice ≡ Paced → IsPacedOutcome plan (level_of plan.ranks) rows platforms fault
 
 -- an engine that was given these opened platforms leaves an outcome of a run by this clock
-abbrev pub LeavesOutcome : Clocking → List PlatformView → Rounds → Type 0
+abbrev pub LeavesOutcome : RunClocks → List PlatformView → Rounds → Type 0
 LeavesOutcome c opened rounds = (plan : Parts) (rows : ℕ → List Row) → AreReady plan rows opened → IsOutcomeBy c plan rows rounds.platforms.items rounds.fault
 
 -- a fact of an admitted plan and of the rows of its sensors' files up to its horizon, none of which is late
@@ -90,7 +90,7 @@ abbrev pub HasOpened : Contents → Parts → List PlatformView → Type 0
 HasOpened contents plan platforms = RunOver contents plan (λ rows. AreReady plan rows platforms)
 
 -- the outcome of a run over the files of its sensors
-abbrev pub IsOutcomeOver : Contents → Clocking → Parts → List PlatformView → Option (ℕ × TurnFault) → Type 0
+abbrev pub IsOutcomeOver : Contents → RunClocks → Parts → List PlatformView → Option (ℕ × TurnFault) → Type 0
 IsOutcomeOver contents c plan platforms fault = RunOver contents plan (λ rows. IsOutcomeBy c plan rows platforms fault)
 
 -- the log of platforms, if it is asked for
@@ -102,7 +102,7 @@ abbrev pub AreHeldIf : Bool → List PlatformView → Type 0
 AreHeldIf log platforms = log ≡ true → Each (Each IsHeldTurn) (histories platforms)
 
 -- a run that finished, with the text that it must write: the tables of the meaning and, if asked for, the log
-pub record IsFinishedRun (contents : Contents) (c : Clocking) (plan : Parts) (log : Bool) (platforms : List PlatformView) (misses : List Miss) (text : List ℕ) : Type 0 where
+pub record IsFinishedRun (contents : Contents) (c : RunClocks) (plan : Parts) (log : Bool) (platforms : List PlatformView) (misses : List Miss) (text : List ℕ) : Type 0 where
   pub run : IsOutcomeOver contents c plan platforms None
   pub fit : FitRows plan.graph (of_run plan.graph run.rows)
   pub firings : List ActorFiring
@@ -136,7 +136,7 @@ pub record AreOutputs (plan : Parts) (log : Bool) (platforms : List PlatformView
   pub lines : string_bytes ran.lines ≡ flat_map (miss_line plan.graph) ran.misses.items
 
 -- what a finished run returns: its platforms, its text, its misses and their lines
-abbrev pub HasOutputs : Contents → Clocking → Parts → Bool → Outputs → Type 0
+abbrev pub HasOutputs : Contents → RunClocks → Parts → Bool → Outputs → Type 0
 HasOutputs contents c plan log ran = IsFinishedRun contents c plan log ran.platforms.items ran.misses.items (outputs_text ran) × (string_bytes ran.lines ≡ flat_map (miss_line plan.graph) ran.misses.items)
 
 -- the outputs of platforms after a run without a fault
@@ -149,12 +149,12 @@ IsStop breach None platforms s = (s.fault ≡ fault.Memory) × (s.platforms.item
 IsStop breach (Some f) platforms s = (s.fault ≡ fault_of_turn f.0 breach f.1) × (s.platforms.items ≡ platforms)
 
 -- the sensors' files have no rows that can be used, for this cause; or memory ran out
-abbrev pub LacksRows : Fault → Contents → Parts → Reading → Type 0
+abbrev pub LacksRows : Fault → Contents → Parts → SourceCall → Type 0
 LacksRows f contents plan r = (f ≡ fault.Memory) ⊎ ((unread : RecordedFault) × (f ≡ fault_of_rows unread) × CauseOfRows Refused unread contents plan.graph [] r)
 
 -- why a run did not finish: it has no rows, or memory ran out, and it leaves no platforms; or this platform stopped it with this fault,
 -- and it leaves all platforms
-abbrev pub CauseOfStop : Stopped → Contents → Clocking → Parts → Reading → Type 0
+abbrev pub CauseOfStop : Stopped → Contents → RunClocks → Parts → SourceCall → Type 0
 CauseOfStop s contents c plan r =
     (LacksRows s.fault contents plan r × (s.platforms.items ≡ []))
     ⊎ ((f : ℕ × TurnFault) × (s.fault ≡ fault_of_turn f.0 None f.1) × IsOutcomeOver contents c plan s.platforms.items (Some f))

@@ -1,4 +1,4 @@
--- How a call ends.
+-- What a call leaves, and which text it puts.
 use Rattle.std.specs.Prelude.{◌≡◌, ◌⊎◌, ℕ, List, [], Option, Some, None, Result, Ok, Err}
 use Rattle.pt_io.specs.Causes.{Rose, Appends, AppendsPart}
 use Rattle.pt_history.specs.declared.miss.Miss.{Miss}
@@ -14,7 +14,7 @@ use Rattle.pt_run.specs.Clocks.{read_for, read_in}
 use Rattle.pt_words.specs.Grammar.{Order}
 use Rattle.pt_words.specs.declared.orders.Command.{Command}
 use Rattle.pt_run.specs.Written.{Leaves, leaves_nothing}
-use Rattle.pt_io.specs.Calls.{Writing}
+use Rattle.pt_io.specs.Calls.{SinkCall}
 use Rattle.pt_run.specs.Runs.{outputs_text}
 
 -- what a call that ended so leaves, with what the clocks that its run read showed before it and after it
@@ -38,7 +38,7 @@ abbrev pub left_of : {C : Type 0} → Outcome C → Option Order → List ClockV
 left_of o order before now = record { misses = o.misses; platforms = o.platforms.items; before = read_in order before; now = read_in order now }
 
 -- a text was put on a sink: all of it, without a fault, or a prefix, if a put failed
-abbrev pub PutBy : Option Fault → List ℕ → Writing → Type 0
+abbrev pub PutBy : Option Fault → List ℕ → SinkCall → Type 0
 PutBy None text w = Appends w.written_before w.written_now text
 PutBy (Some f) text w = (f ≡ fault.Write) × Rose w.before w.now × AppendsPart w.written_before w.written_now text
 
@@ -47,7 +47,7 @@ abbrev pub OrMemory : Option Fault → Fault → Type 0
 OrMemory outcome f = (outcome ≡ Some f) ⊎ (outcome ≡ Some fault.Memory)
 
 -- a call puts the text of what was made, or reports the fault; it leaves nothing
-abbrev pub PutsOrReports : {X : Type 0} → (X → List ℕ) → Result X Fault → Ending → Writing → Type 0
+abbrev pub PutsOrReports : {X : Type 0} → (X → List ℕ) → Result X Fault → Ending → SinkCall → Type 0
 PutsOrReports text (Ok made) o w = (left_by o ≡ leaves_nothing) × PutBy o.fault (text made) w
 PutsOrReports text (Err f) o w = (left_by o ≡ leaves_nothing) × OrMemory o.fault f × (w.written_now ≡ w.written_before)
 
@@ -56,7 +56,7 @@ abbrev pub left_by_run : List Miss → List PlatformView → Leaves
 left_by_run misses platforms = record { misses = misses; platforms = platforms; before = []; now = [] }
 
 -- the text of a run that finished was put, all of it or a prefix; if all of it, the outcome has its misses
-abbrev pub WroteRun : Outputs → Ending → Writing → Type 0
+abbrev pub WroteRun : Outputs → Ending → SinkCall → Type 0
 WroteRun ran o w =
     ((o.fault ≡ None) × (left_by o ≡ left_by_run ran.misses.items ran.platforms.items) × Appends w.written_before w.written_now (outputs_text ran))
     ⊎ ((o.fault ≡ Some fault.Write) × (left_by o ≡ left_by_run [] ran.platforms.items) × Rose w.before w.now × AppendsPart w.written_before w.written_now (outputs_text ran))
@@ -76,6 +76,6 @@ stop_in (Ok ran) = None
 stop_in (Err s) = Some s.fault
 
 -- a run that finished is written, and another one is reported
-abbrev pub HasEnded : Result Outputs Stopped → Ending → Writing → Type 0
+abbrev pub HasEnded : Result Outputs Stopped → Ending → SinkCall → Type 0
 HasEnded (Ok ran) o w = WroteRun ran o w
 HasEnded (Err s) o w = LeftAll s.fault s.platforms.items o × (w.written_now ≡ w.written_before)

@@ -19,7 +19,7 @@ use Rattle.pt_io.specs.Calls.{Contents}
 use Rattle.pt_sensors.specs.Places.{of_run}
 use Rattle.pt_io.specs.Clocks.{ClockView}
 use Rattle.pt_words.specs.declared.orders.ClockChoice.{ClockChoice}
-use Rattle.pt_run.specs.Readings.{Clocking}
+use Rattle.pt_run.specs.Readings.{RunClocks}
 use Rattle.pt_run.specs.Runs.{IsFinishedRun}
 use Rattle.pt_run.specs.declared.fault.Fault.{Fault}
 use Rattle.pt_run.specs.declared.fault.Fault.TheVariants as fault
@@ -59,8 +59,8 @@ stop_of (Some (fault.LateMessage platform actor tag reading limit)) = Some (plat
 stop_of _ = None
 
 -- the clock of a run, with what it leaves
-abbrev pub clocking : ℕ → ClockChoice → Leaves → Clocking
-clocking workers clock left = record { choice = clock; workers = workers; before = left.before; now = left.now }
+abbrev pub run_clocks : ℕ → ClockChoice → Leaves → RunClocks
+run_clocks workers clock left = record { choice = clock; workers = workers; before = left.before; now = left.now }
 
 -- the firings are the meaning of a graph and these rows
 pub record Means (g : Graph) (rows : ℕ → List Row) (firings : List ActorFiring) : Type 0 where
@@ -89,7 +89,7 @@ FitOnAll g firings = length firings ≤ g.claims * length g.platforms
 pub record IsRun (contents : Contents) (g : Graph) (workers : ℕ) (clock : ClockChoice) (log : Bool) (left : Leaves) (text : List ℕ) : Type 0 where
   pub plan : Parts
   pub graph : plan.graph ≡ g
-  pub finished : IsFinishedRun contents (clocking workers clock left) plan log left.platforms left.misses text
+  pub finished : IsFinishedRun contents (run_clocks workers clock left) plan log left.platforms left.misses text
 
 -- what `check` must write for this graph: each sender can send in time, and the text has the offset and margin of each actor
 pub record IsChecked (g : Graph) (text : List ℕ) : Type 0 where

@@ -2,7 +2,7 @@
 
 ghost use Rattle.std.specs.Prelude.{[], string_bytes};
 ghost use Rattle.pt_types.specs.Lawful.{IsLawful};
-ghost use Rattle.pt_io.specs.Calls.{Contents, Reading};
+ghost use Rattle.pt_io.specs.Calls.{Contents, SourceCall};
 ghost use Rattle.pt_words.specs.declared.orders.Command.TheVariants.{Check};
 ghost use Rattle.pt_run.specs.Due.{AfterOffsets, AnswersAsDue, IsDueFor, OnlyPuts};
 ghost use Rattle.pt_run.specs.Written.{IsChecked};
@@ -17,7 +17,7 @@ use std::alloc::Global;
 /// The text that `check` writes: the offset and the margin of each actor of a graph.
 pub fn check_answer(alloc: Global, graph: &Graph) -> Result<String, Fault>
     requires { IsLawful graph.now }
-    ensures { (contents : Contents) (r : Reading) →
+    ensures { (contents : Contents) (r : SourceCall) →
         AnswersAsDue string_bytes result r (IsDueFor Check contents graph.now []) }
 {
     match ranks_of(alloc, graph) {
@@ -29,7 +29,7 @@ pub fn check_answer(alloc: Global, graph: &Graph) -> Result<String, Fault>
 /// The offset and the margin of each actor of a graph without a cycle that takes no time.
 fn check_text(alloc: Global, graph: &Graph) -> Result<String, Fault>
     requires { IsLawful graph.now }
-    ensures { (r : Reading) →
+    ensures { (r : SourceCall) →
         AnswersAsDue string_bytes result r
         (λ a. AfterOffsets graph.now a (OnlyPuts a (IsChecked graph.now))) }
 {

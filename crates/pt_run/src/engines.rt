@@ -9,7 +9,7 @@ ghost use Rattle.pt_turn.specs.All.{AreReady, IsReady};
 ghost use Rattle.pt_confluence.specs.Gathered.{AreLegal};
 ghost use Rattle.pt_run.specs.Clocks.{AreAsMany};
 ghost use Rattle.pt_run.specs.Readings.{step_clock};
-ghost use Rattle.pt_run.specs.Runs.{LeavesOutcome, clocks_by, paced_clocking, read_with, steps_by};
+ghost use Rattle.pt_run.specs.Runs.{LeavesOutcome, clocks_by, paced_run_clocks, read_with, steps_by};
 ghost use Rattle.pt_run.specs.Workers.{IsOutcomeOfWorkers};
 
 use pt_blocks::Blocks;
@@ -70,7 +70,7 @@ fn run_paced(
 ) -> Result<Rounds, Memory>
     requires some { 0 < length platforms.items }
     requires ready { IsReady platforms.items }
-    ensures { IfOk result (LeavesOutcome (paced_clocking workers) platforms.items) }
+    ensures { IfOk result (LeavesOutcome (paced_run_clocks workers) platforms.items) }
 {
     let rounds = paced(alloc, platforms, blocks, workers)?;
     are_legal(rounds.platforms.as_slice());
@@ -121,7 +121,8 @@ fn step_clocks(
     step: u64,
 ) -> Result<Vec<StepClock>, Memory>
     ensures { IfOk result
-        (λ clocks. viewed ⟦<StepClock as Clock>⟧.readings ⟦<StepClock as Clock>⟧.ahead clocks.items ≡ replicate count (step_clock start step)) }
+        (λ clocks. viewed ⟦<StepClock as Clock>⟧.readings ⟦<StepClock as Clock>⟧.ahead clocks.items
+        ≡ replicate count (step_clock start step)) }
 {
     let mut clocks = Vec::new(alloc);
     for _ in 0..count {

@@ -2,7 +2,7 @@
 
 ghost use Rattle.std.specs.Prelude.{◌≡◌, ◌≤◌, IfOk, None, Some, string_bytes};
 ghost use Rattle.std.specs.Arc.{arc_value};
-ghost use Rattle.pt_io.specs.Calls.{Contents, Reading, writing};
+ghost use Rattle.pt_io.specs.Calls.{Contents, SourceCall, writing};
 ghost use Rattle.pt_offsets.specs.Plans.{IsAdmitted};
 ghost use Rattle.pt_causality.specs.Ranked.{level_of};
 ghost use Rattle.pt_sensors.specs.Places.{of_run};
@@ -53,7 +53,7 @@ pub fn make<K: Sink, E: Sink>(
 ) -> Ending
     requires { number ≤ 100 }
     ensures status { result.status ≡ status_of result.fault result.misses }
-    ensures due { (contents : Contents) (r : Reading) →
+    ensures due { (contents : Contents) (r : SourceCall) →
         IsDue (Some (to_make number workers)) contents blocks.now.listed.items
         (answer_by result r (writing K.Sink out.old out.new)) }
     ensures flushed { result.fault ≡ None → K.flushed out.new }

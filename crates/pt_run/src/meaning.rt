@@ -1,7 +1,7 @@
 //! The command `meaning`.
 
 ghost use Rattle.std.specs.Prelude.{[], length, string_bytes};
-ghost use Rattle.pt_io.specs.Calls.{Reading, reading};
+ghost use Rattle.pt_io.specs.Calls.{SourceCall, reading};
 ghost use Rattle.pt_types.specs.Lawful.{IsLawful};
 ghost use Rattle.pt_semantics.specs.Lists.{Each};
 ghost use Rattle.pt_semantics.specs.Ranks.{AreRanks};
@@ -74,7 +74,7 @@ fn meaning_tables(
     requires lawful { IsLawful graph.now }
     requires ranks { AreRanks graph.now (rank_of ranks.now) }
     requires sensors { Each (IsOfActors (length graph.now.actors)) sensors.now }
-    ensures { (r : Reading) →
+    ensures { (r : SourceCall) →
         AnswersAsDue string_bytes result r (IsMeantBy graph.now (rows_for sensors.now)) }
 {
     let most = graph.claims as usize * graph.platforms.as_slice().len();

@@ -131,7 +131,7 @@ pub fn end_run<K: Sink, E: Sink>(
 {
     match ran {
         Ok(outputs) => write_run(alloc, graph, outputs, out, notes),
-        Err(Stopped { fault, platforms }) => leave(alloc, graph, fault, platforms, notes),
+        Err(Stopped { fault, platforms }) => report_stop(alloc, graph, fault, platforms, notes),
     }
 }
 
@@ -166,7 +166,7 @@ fn write_run<K: Sink, E: Sink>(
 }
 
 /// Reports a fault that leaves these platforms, if there is memory for its line.
-fn leave<E: Sink>(
+fn report_stop<E: Sink>(
     alloc: Global,
     graph: &Graph,
     fault: Fault,

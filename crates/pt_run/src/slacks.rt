@@ -2,7 +2,7 @@
 
 ghost use Rattle.std.specs.Prelude.{[], string_bytes};
 ghost use Rattle.pt_types.specs.Lawful.{IsLawful};
-ghost use Rattle.pt_io.specs.Calls.{Contents, Reading};
+ghost use Rattle.pt_io.specs.Calls.{Contents, SourceCall};
 ghost use Rattle.pt_words.specs.declared.orders.Command.TheVariants.{Slacks};
 ghost use Rattle.pt_run.specs.Due.{AnswersAsDue, IsDueFor, IsSlackedBy};
 
@@ -16,7 +16,7 @@ use std::alloc::Global;
 /// slacks in the graph are not used.
 pub fn slacks_answer(alloc: Global, graph: &Graph) -> Result<String, Fault>
     requires { IsLawful graph.now }
-    ensures { (contents : Contents) (r : Reading) →
+    ensures { (contents : Contents) (r : SourceCall) →
         AnswersAsDue string_bytes result r (IsDueFor Slacks contents graph.now []) }
 {
     match ranks_of(alloc, graph) {
@@ -28,7 +28,7 @@ pub fn slacks_answer(alloc: Global, graph: &Graph) -> Result<String, Fault>
 /// The least slacks of a graph without a cycle that takes no time.
 fn least_text(alloc: Global, graph: &Graph) -> Result<String, Fault>
     requires { IsLawful graph.now }
-    ensures { (r : Reading) → AnswersAsDue string_bytes result r (IsSlackedBy graph.now) }
+    ensures { (r : SourceCall) → AnswersAsDue string_bytes result r (IsSlackedBy graph.now) }
 {
     let least = least_delays(alloc, graph)?;
     let slacks = match slacks(alloc, graph, &least) {

@@ -131,7 +131,7 @@ pub fn ptides<S: Source, K: Sink, E: Sink, C: Clock + Send, R: Threads + Wait + 
         (writing E.Sink notes.old notes.new) }
 {
     let mut handed = clocks;
-    let ending = run_words(rt, alloc, words, source, out, notes, &mut handed, blocks);
+    let ending = run_order(rt, alloc, words, source, out, notes, &mut handed, blocks);
     Outcome {
         status: ending.status,
         fault: ending.fault,
@@ -142,7 +142,7 @@ pub fn ptides<S: Source, K: Sink, E: Sink, C: Clock + Send, R: Threads + Wait + 
 }
 
 /// Runs the command of these words. The other clauses of `ptides` follow from these.
-fn run_words<S: Source, K: Sink, E: Sink, C: Clock + Send, R: Threads + Wait + Sync>(
+fn run_order<S: Source, K: Sink, E: Sink, C: Clock + Send, R: Threads + Wait + Sync>(
     rt: &R,
     alloc: Global,
     words: &[String],
@@ -289,21 +289,21 @@ fn run_command<S: Source, K: Sink, E: Sink, C: Clock + Send, R: Threads + Wait +
         }
         Command::Check => {
             let answer = check_answer(alloc, &graph);
-            give(alloc, answer, &graph, out, notes)
+            put_answer(alloc, answer, &graph, out, notes)
         }
         Command::Meaning => {
             let answer = meaning_answer(alloc, source, &graph);
-            give(alloc, answer, &graph, out, notes)
+            put_answer(alloc, answer, &graph, out, notes)
         }
         Command::Slacks => {
             let answer = slacks_answer(alloc, &graph);
-            give(alloc, answer, &graph, out, notes)
+            put_answer(alloc, answer, &graph, out, notes)
         }
     }
 }
 
 /// Puts a text on `out`, or reports its fault.
-fn give<K: Sink, E: Sink>(
+fn put_answer<K: Sink, E: Sink>(
     alloc: Global,
     answer: Result<String, Fault>,
     graph: &Graph,

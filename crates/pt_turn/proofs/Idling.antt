@@ -21,7 +21,7 @@ use Rattle.pt_history.specs.Turns.{fresh}
 use Rattle.pt_history.specs.declared.history.History.{History}
 use Rattle.pt_turn.specs.declared.state.fields.Fields.{Fields}
 use Rattle.pt_turn.specs.Fields.State.{state_of}
-use Rattle.pt_turn.specs.declared.claim_step.Ending.TheVariants.{On}
+use Rattle.pt_turn.specs.declared.claim_step.TurnEnd.TheVariants.{On}
 use Rattle.pt_turn.specs.declared.steps.Lists.{Lists}
 use Rattle.pt_turn.specs.Steps.{AreEmpty, IsMade, turn_of}
 use Rattle.pt_turn.specs.Posts.Posted.{picked}
@@ -71,41 +71,41 @@ turn_is r lists e = λ i. record { first = r; last = r; count = 1; posted = pick
 nothing_taken : (lists : Lists) (taken : List OnLink) → AreEmpty lists → taken ++ lists.taken.items ≡ taken
 nothing_taken lists taken e = ap (λ ms. taken ++ ms) e.taken ∙ append-nil taken
 
-is_made : (p : Inside) (r most : ℕ) → IsPlatform p → ((q : ℕ) → p.fields.reading ≡ Some q → q ≤ r) → IsIdle (platform_graph p) p.number (state_of p.fields (messages_of p.history.turns)) r → IsMade (platform_graph p) (basis_of p) r most [] [] p.fields (record p.fields { reading = Some r }) p.lists On
+is_made : (p : Inside) (r most : ℕ) → IsPlatform p → ((q : ℕ) → p.progress.fields.reading ≡ Some q → q ≤ r) → IsIdle (platform_graph p) p.number (state_of p.progress.fields (messages_of p.progress.history.turns)) r → IsMade (platform_graph p) (basis_of p) r most [] [] p.progress.fields (record p.progress.fields { reading = Some r }) p.progress.lists On
 is_made p r most is rises idle =
     let g : Graph = platform_graph p in
     let level : ℕ → ℕ = level_of (arc_value p.plan).ranks in
-    let s : State = state_of p.fields (messages_of p.history.turns) in
-    let new : Fields = record p.fields { reading = Some r } in
-    let same : turn_of r [] p.lists ≡ fresh r = turn_is r p.lists is.empty in
-    let quiet : IsQuietTurn g level p.number s (turn_of r [] p.lists) (state_of new (messages_of p.history.turns)) = subst (λ (t : Turn). IsQuietTurn g level p.number s t (state_of new (messages_of p.history.turns))) (sym same) (quiet_turn g level p.number s r rises is.claims idle) in
-    let part : IsQuietTurn g level p.number s (turn_of r [] p.lists) (state_of new (messages_of p.history.turns ++ p.lists.taken.items)) = subst (λ (ms : List OnLink). IsQuietTurn g level p.number s (turn_of r [] p.lists) (state_of new ms)) (sym (nothing_taken p.lists (messages_of p.history.turns) is.empty)) quiet in
+    let s : State = state_of p.progress.fields (messages_of p.progress.history.turns) in
+    let new : Fields = record p.progress.fields { reading = Some r } in
+    let same : turn_of r [] p.progress.lists ≡ fresh r = turn_is r p.progress.lists is.empty in
+    let quiet : IsQuietTurn g level p.number s (turn_of r [] p.progress.lists) (state_of new (messages_of p.progress.history.turns)) = subst (λ (t : Turn). IsQuietTurn g level p.number s t (state_of new (messages_of p.progress.history.turns))) (sym same) (quiet_turn g level p.number s r rises is.claims idle) in
+    let part : IsQuietTurn g level p.number s (turn_of r [] p.progress.lists) (state_of new (messages_of p.progress.history.turns ++ p.progress.lists.taken.items)) = subst (λ (ms : List OnLink). IsQuietTurn g level p.number s (turn_of r [] p.progress.lists) (state_of new ms)) (sym (nothing_taken p.progress.lists (messages_of p.progress.history.turns) is.empty)) quiet in
     let safe : NothingSafe g part.is.ready.waits part.is.ready.busy r = subst (λ (z : State). NothingSafe g z.waits z.busy r) (sym part.ready) idle.safe in
     record {
       turn = part.is;
       posted = ap (picked []) is.empty.posted;
-      taken = record { rest = []; front = sym (append-nil p.lists.taken.items ∙ is.empty.taken); all = λ late. refl };
+      taken = record { rest = []; front = sym (append-nil p.progress.lists.taken.items ∙ is.empty.taken); all = λ late. refl };
       few = subst (λ (ts : List Task). length ts ≤ most) (sym is.empty.claimed) (omega arith);
       all_or = λ late. inl safe;
-      last = λ h. ⊎_elim (λ (l : false ≡ true). false≢true l) (λ (m : (g.claims ≤ p.fields.claims) × (NothingSafe g part.is.ready.waits part.is.ready.busy r → ⊥)). m.1 safe) h;
+      last = λ h. ⊎_elim (λ (l : false ≡ true). false≢true l) (λ (m : (g.claims ≤ p.progress.fields.claims) × (NothingSafe g part.is.ready.waits part.is.ready.busy r → ⊥)). m.1 safe) h;
     }
 
 -- what always holds of the next reading
-is_idle : (p : Inside) (r next : ℕ) → IsPlatform p → IsNextReading (platform_graph p) p.number (state_of p.fields (messages_of p.history.turns)) next → r < next → IsIdle (platform_graph p) p.number (state_of p.fields (messages_of p.history.turns)) r
+is_idle : (p : Inside) (r next : ℕ) → IsPlatform p → IsNextReading (platform_graph p) p.number (state_of p.progress.fields (messages_of p.progress.history.turns)) next → r < next → IsIdle (platform_graph p) p.number (state_of p.progress.fields (messages_of p.progress.history.turns)) r
 is_idle p r next is is_next before =
-    let idle = idle_before (platform_graph p) p.number (state_of p.fields (messages_of p.history.turns)) (offset_of (arc_value p.plan).offsets) next p.closing r is.admitted.offsets.units is.closing is_next before in
+    let idle = idle_before (platform_graph p) p.number (state_of p.progress.fields (messages_of p.progress.history.turns)) (offset_of (arc_value p.plan).offsets) next p.closing r is.admitted.offsets.units is.closing is_next before in
     record { due = idle.0; safe = idle.1; closes = idle.2 }
 
-pub has_rested : (p : Inside) (r most next : ℕ) (history : History) (handed : List Task) → IsPlatform p → IsNextReading (platform_graph p) p.number (state_of p.fields (messages_of p.history.turns)) next → r < next → ((q : ℕ) → p.fields.reading ≡ Some q → q ≤ r) → history.turns ≡ kept_with p.history.turns (fresh r) → length p.fields.outbox.items ≤ history.room.sent → r < 2 ^ 64
-    → IsDone p r most [] [] (record p.fields { reading = Some r }) history p.lists None handed handed
+pub has_rested : (p : Inside) (r most next : ℕ) (history : History) (handed : List Task) → IsPlatform p → IsNextReading (platform_graph p) p.number (state_of p.progress.fields (messages_of p.progress.history.turns)) next → r < next → ((q : ℕ) → p.progress.fields.reading ≡ Some q → q ≤ r) → history.turns ≡ kept_with p.progress.history.turns (fresh r) → length p.progress.fields.outbox.items ≤ history.room.sent → r < 2 ^ 64
+    → IsDone p r most [] [] (record p.progress.fields { reading = Some r }) history p.progress.lists None handed handed
 has_rested p r most next history handed is is_next before rises turns sent fits = record {
   kept = record {
-    lists = p.lists;
+    lists = p.progress.lists;
     ending = On;
     made = is_made p r most is rises (is_idle p r next is is_next before);
     full = tt;
     names = refl;
-    turns = turns ∙ ap (kept_with p.history.turns) (sym (turn_is r p.lists is.empty));
+    turns = turns ∙ ap (kept_with p.progress.history.turns) (sym (turn_is r p.progress.lists is.empty));
     tasks = sym (ap (λ ts. handed ++ ts) is.empty.claimed ∙ append-nil handed);
   };
   sound = record { groups = is.sound.groups; states = is.sound.states; open_claims = is.sound.open_claims; links = is.sound.links; at_units = is.sound.at_units };
@@ -134,7 +134,7 @@ roomy_still p next (Some r) roomy = record {
   sent = roomy.sent;
 }
 
-pub knows_next : (p : Inside) (next : ℕ) → IsPlatform p → IsNextReading (platform_graph p) p.number (state_of p.fields (messages_of p.history.turns)) next → IsPlatform (with_next p (Some next))
+pub knows_next : (p : Inside) (next : ℕ) → IsPlatform p → IsNextReading (platform_graph p) p.number (state_of p.progress.fields (messages_of p.progress.history.turns)) next → IsPlatform (with_next p (Some next))
 knows_next p next is known = record {
   admitted = is.admitted;
   sound = is.sound;

@@ -19,8 +19,8 @@ use Rattle.pt_turn.specs.declared.state.fields.Fields.{Fields}
 use Rattle.pt_turn.specs.Fields.State.{busy_in, left_in, state_of}
 use Rattle.pt_turn.specs.Claims.Claimed.{AreClaimed}
 use Rattle.pt_turn.specs.Posts.Posted.{ArePosted, NeverPosts, picked}
-use Rattle.pt_turn.specs.declared.claim_step.Ending.{Ending}
-use Rattle.pt_turn.specs.declared.claim_step.Ending.TheVariants.{On, Late, Long}
+use Rattle.pt_turn.specs.declared.claim_step.TurnEnd.{TurnEnd}
+use Rattle.pt_turn.specs.declared.claim_step.TurnEnd.TheVariants.{On, Late, Long}
 use Rattle.pt_turn.specs.Claiming.{EndsIn, HasClaimed, IsIdle}
 use Rattle.pt_turn.specs.Takes.Taken.{Basis}
 use Rattle.pt_turn.specs.declared.steps.Lists.{Lists}
@@ -40,7 +40,7 @@ pub never_posts : (g : Graph) (s : State) (k : ℕ → List Message) → NeverPo
 never_posts g s k h = λ ds mid d posts busy. h ds (retaken mid s.taken) d (posts_retaken g (retaken s k) mid s.taken ds posts) busy
 
 -- what is claimed in a turn, late or not
-pub record ClaimsPart (g : Graph) (old new : Fields) (r most : ℕ) (taken : List OnLink) (tasks : List Task) (ending : Ending) : Type 0 where
+pub record ClaimsPart (g : Graph) (old new : Fields) (r most : ℕ) (taken : List OnLink) (tasks : List Task) (ending : TurnEnd) : Type 0 where
   pub claims : Claims g r (state_of old taken) tasks (state_of new taken)
   pub idle : took_late ending ≡ true → tasks ≡ []
   pub greedy : tasks ≡ [] → (took_late ending ≡ true) ⊎ (IsIdle g new r ⊎ (g.claims ≤ old.claims))
@@ -49,7 +49,7 @@ pub record ClaimsPart (g : Graph) (old new : Fields) (r most : ℕ) (taken : Lis
   pub all_or : took_late ending ≡ false → IsIdle g new r ⊎ ((most ≤ length tasks) ⊎ (g.claims ≤ new.claims))
 
 -- a turn is late exactly where it ends so
-pub late_is : (g : Graph) (r : ℕ) (old new : Fields) (late : Bool) (ending : Ending) → EndsIn g r old new late ending → took_late ending ≡ late
+pub late_is : (g : Graph) (r : ℕ) (old new : Fields) (late : Bool) (ending : TurnEnd) → EndsIn g r old new late ending → took_late ending ≡ late
 late_is g r old new late On h = sym h.0
 late_is g r old new late Late h = sym h
 late_is g r old new late Long h = sym h.0
@@ -60,7 +60,7 @@ none_left X in_all most old new tasks some count empty h =
     let none : length tasks ≡ 0 = ap length empty in
     ⊎_elim (λ x. inl x) (λ k. ⊎_elim (λ (full : most ≤ length tasks). absurd (omega (arith, some, none, full))) (λ (all : in_all ≤ new). inr (omega (arith, all, count, none))) k) h
 
-in_time : (g : Graph) (old new : Fields) (r most : ℕ) (taken : List OnLink) (before after : List Task) (ending : Ending) → took_late ending ≡ false → before ≡ [] → 1 ≤ most → AreClaimed g r most old new before after → ClaimsPart g old new r most taken after ending
+in_time : (g : Graph) (old new : Fields) (r most : ℕ) (taken : List OnLink) (before after : List Task) (ending : TurnEnd) → took_late ending ≡ false → before ≡ [] → 1 ≤ most → AreClaimed g r most old new before after → ClaimsPart g old new r most taken after ending
 in_time g old new r most taken before after ending on empty some h =
     let list : after ≡ h.claimed = h.appended ∙ ap (λ xs. xs ++ h.claimed) empty in
     record {
@@ -72,7 +72,7 @@ in_time g old new r most taken before after ending on empty some h =
       all_or = λ e. subst (λ (cs : List Task). IsIdle g new r ⊎ ((most ≤ length cs) ⊎ (g.claims ≤ new.claims))) (sym list) h.all_or;
     }
 
-too_late : (g : Graph) (old new : Fields) (r most : ℕ) (taken : List OnLink) (before after : List Task) (ending : Ending) → took_late ending ≡ true → before ≡ [] → old.claims ≤ g.claims → (new ≡ old) × (after ≡ before) → ClaimsPart g old new r most taken after ending
+too_late : (g : Graph) (old new : Fields) (r most : ℕ) (taken : List OnLink) (before after : List Task) (ending : TurnEnd) → took_late ending ≡ true → before ≡ [] → old.claims ≤ g.claims → (new ≡ old) × (after ≡ before) → ClaimsPart g old new r most taken after ending
 too_late g old new r most taken before after ending off empty bound same =
     let none : after ≡ [] = same.1 ∙ empty in
     record {
@@ -84,12 +84,12 @@ too_late g old new r most taken before after ending off empty bound same =
       all_or = λ e. absurd (false≢true (sym e ∙ off));
     }
 
-pub claims_part : (g : Graph) (old new : Fields) (r most : ℕ) (taken : List OnLink) (before after : List Task) (late : Bool) (ending : Ending) → before ≡ [] → 1 ≤ most → old.claims ≤ g.claims → HasClaimed g r most old new before after late ending → ClaimsPart g old new r most taken after ending
+pub claims_part : (g : Graph) (old new : Fields) (r most : ℕ) (taken : List OnLink) (before after : List Task) (late : Bool) (ending : TurnEnd) → before ≡ [] → 1 ≤ most → old.claims ≤ g.claims → HasClaimed g r most old new before after late ending → ClaimsPart g old new r most taken after ending
 claims_part g old new r most taken before after true ending empty some bound h = too_late g old new r most taken before after ending (late_is g r old new true ending h.ends) empty bound (h.none refl)
 claims_part g old new r most taken before after false ending empty some bound h = in_time g old new r most taken before after ending (late_is g r old new false ending h.ends) empty some (h.claimed refl)
 
 -- how a turn ends is what the definition of a last turn says
-pub ends_as : (g : Graph) (r : ℕ) (old new : Fields) (s ready : State) (late : Bool) (ending : Ending) → s.claims ≡ old.claims → ready.waits ≡ (state_of new []).waits → ready.busy ≡ (state_of new []).busy → EndsIn g r old new late ending → EndsAsLast g ending (IsLast g s r (took_late ending) ready)
+pub ends_as : (g : Graph) (r : ℕ) (old new : Fields) (s ready : State) (late : Bool) (ending : TurnEnd) → s.claims ≡ old.claims → ready.waits ≡ (state_of new []).waits → ready.busy ≡ (state_of new []).busy → EndsIn g r old new late ending → EndsAsLast g ending (IsLast g s r (took_late ending) ready)
 ends_as g r old new s ready late On count waits busy h = λ last. ⊎_elim (λ (l : false ≡ true). false≢true l)
     (λ (l : (g.claims ≤ s.claims) × (NothingSafe g ready.waits ready.busy r → ⊥)). l.1 (subst (λ w. NothingSafe g w ready.busy r) (sym waits) (subst (λ b. NothingSafe g (state_of new []).waits b r) (sym busy) (h.1 (subst (λ n. g.claims ≤ n) count l.0))))) last
 ends_as g r old new s ready late Late count waits busy h = inl refl
@@ -116,7 +116,7 @@ whole g level i r s posted got ready new ps rs ts cs late rises posts rows takes
 }
 
 -- what each step did
-pub record AreSteps (g : Graph) (w : Basis) (r most : ℕ) (dones : List Done) (messages : List OnLink) (old before after new : Fields) (lists : Lists) (late : Bool) (ending : Ending) : Type 0 where
+pub record AreSteps (g : Graph) (w : Basis) (r most : ℕ) (dones : List Done) (messages : List OnLink) (old before after new : Fields) (lists : Lists) (late : Bool) (ending : TurnEnd) : Type 0 where
   pub rises : (p : ℕ) → old.reading ≡ Some p → p ≤ r
   pub posted : State
   pub posts : Posts g (state_of old w.taken) (picked dones lists.posted.items) posted
@@ -133,7 +133,7 @@ pub record AreSteps (g : Graph) (w : Basis) (r most : ℕ) (dones : List Done) (
   pub closes : Closes g w.platform (state_of after (w.taken ++ lists.taken.items)) r late (state_of new (w.taken ++ lists.taken.items))
 
 -- are one turn
-pub is_made : (g : Graph) (w : Basis) (r most : ℕ) (dones : List Done) (messages : List OnLink) (old before after new : Fields) (lists : Lists) (late : Bool) (ending : Ending) → most ≤ 64 → AreSteps g w r most dones messages old before after new lists late ending → IsMade g w r most dones messages old new lists ending
+pub is_made : (g : Graph) (w : Basis) (r most : ℕ) (dones : List Done) (messages : List OnLink) (old before after new : Fields) (lists : Lists) (late : Bool) (ending : TurnEnd) → most ≤ 64 → AreSteps g w r most dones messages old before after new lists late ending → IsMade g w r most dones messages old new lists ending
 unfolding whole
 is_made g w r most dones messages old before after new lists late ending few s =
     let all : List OnLink = w.taken ++ lists.taken.items in
@@ -153,7 +153,7 @@ is_made g w r most dones messages old before after new lists late ending few s =
     }
 
 -- what the end of a turn shows
-pub shows_end : (g : Graph) (r : ℕ) (old new done : Fields) (late : Bool) (ending : Ending) → done.claims ≡ new.claims → done.queue ≡ new.queue → done.open_claims ≡ new.open_claims → (late ≡ false → old.claims ≤ new.claims) → EndsIn g r old new late ending → ShowsEnd g r done ending
+pub shows_end : (g : Graph) (r : ℕ) (old new done : Fields) (late : Bool) (ending : TurnEnd) → done.claims ≡ new.claims → done.queue ≡ new.queue → done.open_claims ≡ new.open_claims → (late ≡ false → old.claims ≤ new.claims) → EndsIn g r old new late ending → ShowsEnd g r done ending
 shows_end g r old new done late On claims queue opens count h = tt
 shows_end g r old new done late Late claims queue opens count h = tt
 shows_end g r old new done late Long claims queue opens count h =

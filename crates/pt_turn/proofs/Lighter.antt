@@ -22,24 +22,24 @@ use Rattle.pt_turn.proofs.Leaving.{on_other, on_own}
 use Rattle.pt_turn.proofs.Sending.{AreFront, MayFollow, ran_more, taken_still}
 
 abbrev pub lighter : Inside → OutboxView → History → Inside
-lighter p outbox history = record p { fields = record p.fields { outbox = outbox }; history = history }
+lighter p outbox history = record p { progress = record p.progress { fields = record p.progress.fields { outbox = outbox }; history = history } }
 
 -- the first message of link l left the outbox and was sent
 pub record Went (p : Inside) (l : ℕ) (m : OnLink) (outbox : OutboxView) (history : History) : Type 0 where
   pub on : m.link ≡ l
-  pub first : on_link l p.fields.outbox.items ≡ m.message ∷ on_link l outbox.items
-  pub others : (k : ℕ) → (k ≡ l → ⊥) → on_link k outbox.items ≡ on_link k p.fields.outbox.items
-  pub len : length outbox.items + 1 ≡ length p.fields.outbox.items
-  pub links : outbox.links ≡ p.fields.outbox.links
-  pub spare : outbox.spare ≡ p.fields.outbox.spare
-  pub turns : history.turns ≡ on_last (sending (m ∷ [])) p.history.turns
-  pub room : history.room ≡ record p.history.room { sent = p.history.room.sent - 1 }
-  pub begun : 0 < length p.history.turns
-  pub few : length (on_link l (last_sent p.history.turns)) < 64
+  pub first : on_link l p.progress.fields.outbox.items ≡ m.message ∷ on_link l outbox.items
+  pub others : (k : ℕ) → (k ≡ l → ⊥) → on_link k outbox.items ≡ on_link k p.progress.fields.outbox.items
+  pub len : length outbox.items + 1 ≡ length p.progress.fields.outbox.items
+  pub links : outbox.links ≡ p.progress.fields.outbox.links
+  pub spare : outbox.spare ≡ p.progress.fields.outbox.spare
+  pub turns : history.turns ≡ on_last (sending (m ∷ [])) p.progress.history.turns
+  pub room : history.room ≡ record p.progress.history.room { sent = p.progress.history.room.sent - 1 }
+  pub begun : 0 < length p.progress.history.turns
+  pub few : length (on_link l (last_sent p.progress.history.turns)) < 64
 
-pub went_of : (p : Inside) (l : ℕ) (message : Message) (sent : List OnLink) (outbox : OutboxView) (history : History) → on_link l p.fields.outbox.items ≡ message ∷ on_link l outbox.items → ((k : ℕ) → (k ≡ l → ⊥) → on_link k outbox.items ≡ on_link k p.fields.outbox.items)
-    → length outbox.items + 1 ≡ length p.fields.outbox.items → outbox.links ≡ p.fields.outbox.links → outbox.spare ≡ p.fields.outbox.spare → sent ≡ record { link = l; message = message } ∷ [] → history.turns ≡ on_last (sending sent) p.history.turns → history.room ≡ record p.history.room { sent = p.history.room.sent - length sent }
-    → 0 < length p.history.turns → length (on_link l (last_sent p.history.turns)) < 64 → Went p l (record { link = l; message = message }) outbox history
+pub went_of : (p : Inside) (l : ℕ) (message : Message) (sent : List OnLink) (outbox : OutboxView) (history : History) → on_link l p.progress.fields.outbox.items ≡ message ∷ on_link l outbox.items → ((k : ℕ) → (k ≡ l → ⊥) → on_link k outbox.items ≡ on_link k p.progress.fields.outbox.items)
+    → length outbox.items + 1 ≡ length p.progress.fields.outbox.items → outbox.links ≡ p.progress.fields.outbox.links → outbox.spare ≡ p.progress.fields.outbox.spare → sent ≡ record { link = l; message = message } ∷ [] → history.turns ≡ on_last (sending sent) p.progress.history.turns → history.room ≡ record p.progress.history.room { sent = p.progress.history.room.sent - length sent }
+    → 0 < length p.progress.history.turns → length (on_link l (last_sent p.progress.history.turns)) < 64 → Went p l (record { link = l; message = message }) outbox history
 went_of p l message sent outbox history first others len links spare one turns room begun few = record {
   on = refl;
   first = first;
@@ -47,8 +47,8 @@ went_of p l message sent outbox history first others len links spare one turns r
   len = len;
   links = links;
   spare = spare;
-  turns = turns ∙ ap (λ ms. on_last (sending ms) p.history.turns) one;
-  room = room ∙ ap (λ (ms : List OnLink). record p.history.room { sent = p.history.room.sent - length ms }) one;
+  turns = turns ∙ ap (λ ms. on_last (sending ms) p.progress.history.turns) one;
+  room = room ∙ ap (λ (ms : List OnLink). record p.progress.history.room { sent = p.progress.history.room.sent - length ms }) one;
   begun = begun;
   few = few;
 }
@@ -59,10 +59,10 @@ one_on l m e = on_own l m [] (eq-eqb m.link l e)
 none_on : (l k : ℕ) (m : OnLink) → m.link ≡ l → (k ≡ l → ⊥) → on_link k (m ∷ []) ≡ []
 none_on l k m e other = on_other k m [] (ne_eqb m.link k (λ same. other (sym same ∙ e)))
 
-front : (p : Inside) (l : ℕ) (m : OnLink) (outbox : OutboxView) (history : History) → Went p l m outbox history → AreFront (λ k. on_link k p.fields.outbox.items) (m ∷ []) (λ k. on_link k outbox.items)
+front : (p : Inside) (l : ℕ) (m : OnLink) (outbox : OutboxView) (history : History) → Went p l m outbox history → AreFront (λ k. on_link k p.progress.fields.outbox.items) (m ∷ []) (λ k. on_link k outbox.items)
 front p l m outbox history w k =
     ⊎_elim
-    (λ (e : (k == l) ≡ true). subst (λ j. on_link j p.fields.outbox.items ≡ on_link j (m ∷ []) ++ on_link j outbox.items) (sym (eqb-true k l e)) (w.first ∙ ap (λ z. z ++ on_link l outbox.items) (sym (one_on l m w.on))))
+    (λ (e : (k == l) ≡ true). subst (λ j. on_link j p.progress.fields.outbox.items ≡ on_link j (m ∷ []) ++ on_link j outbox.items) (sym (eqb-true k l e)) (w.first ∙ ap (λ z. z ++ on_link l outbox.items) (sym (one_on l m w.on))))
     (λ (e : (k == l) ≡ false). sym (w.others k (eqb-false k l e)) ∙ ap (λ z. z ++ on_link k outbox.items) (sym (none_on l k m w.on (eqb-false k l e))))
     (cases_Bool (k == l))
 
@@ -82,12 +82,12 @@ may_follow l m sent on few k le =
 -- the room of the next turn is there still
 roomy_still : (p : Inside) (l : ℕ) (m : OnLink) (outbox : OutboxView) (history : History) (r : Room) → Went p l m outbox history → IsRoomy p r → IsRoomy (lighter p outbox history) r
 roomy_still p l m outbox history r w roomy =
-    let turns : history.room.turns ≡ p.history.room.turns = ap (λ z. z.turns) w.room in
-    let posted : history.room.posted ≡ p.history.room.posted = ap (λ z. z.posted) w.room in
-    let rows : history.room.rows ≡ p.history.room.rows = ap (λ z. z.rows) w.room in
-    let taken : history.room.taken ≡ p.history.room.taken = ap (λ z. z.taken) w.room in
-    let claimed : history.room.claimed ≡ p.history.room.claimed = ap (λ z. z.claimed) w.room in
-    let sent : history.room.sent ≡ p.history.room.sent - 1 = ap (λ z. z.sent) w.room in
+    let turns : history.room.turns ≡ p.progress.history.room.turns = ap (λ z. z.turns) w.room in
+    let posted : history.room.posted ≡ p.progress.history.room.posted = ap (λ z. z.posted) w.room in
+    let rows : history.room.rows ≡ p.progress.history.room.rows = ap (λ z. z.rows) w.room in
+    let taken : history.room.taken ≡ p.progress.history.room.taken = ap (λ z. z.taken) w.room in
+    let claimed : history.room.claimed ≡ p.progress.history.room.claimed = ap (λ z. z.claimed) w.room in
+    let sent : history.room.sent ≡ p.progress.history.room.sent - 1 = ap (λ z. z.sent) w.room in
     record {
       fields = record {
         events = roomy.fields.events;
@@ -112,11 +112,11 @@ room_still p l m outbox history (Some r) w roomy = roomy_still p l m outbox hist
 
 pub is_lighter : (p : Inside) (l : ℕ) (m : OnLink) (outbox : OutboxView) (history : History) → IsPlatform p → Went p l m outbox history → IsPlatform (lighter p outbox history)
 is_lighter p l m outbox history is w =
-    let sent : history.room.sent ≡ p.history.room.sent - 1 = ap (λ z. z.sent) w.room in
-    let taken : messages_of history.turns ≡ messages_of p.history.turns = ap messages_of w.turns ∙ taken_still p.history.turns (m ∷ []) in
-    let ran : Ran (platform_graph p) (level_of (arc_value p.plan).ranks) p.number (rows_at_sensors p.fields.sensors.items) (on_last (sending (m ∷ [])) p.history.turns) (state_of (record p.fields { outbox = outbox }) (messages_of p.history.turns)) p.fault =
-    ran_more (platform_graph p) (level_of (arc_value p.plan).ranks) p.number (rows_at_sensors p.fields.sensors.items) p.history.turns (state_of p.fields (messages_of p.history.turns)) p.fault (m ∷ []) (λ k. on_link k outbox.items) is.ran w.begun
-    (front p l m outbox history w) (may_follow l m (last_sent p.history.turns) w.on w.few) in
+    let sent : history.room.sent ≡ p.progress.history.room.sent - 1 = ap (λ z. z.sent) w.room in
+    let taken : messages_of history.turns ≡ messages_of p.progress.history.turns = ap messages_of w.turns ∙ taken_still p.progress.history.turns (m ∷ []) in
+    let ran : Ran (platform_graph p) (level_of (arc_value p.plan).ranks) p.number (rows_at_sensors p.progress.fields.sensors.items) (on_last (sending (m ∷ [])) p.progress.history.turns) (state_of (record p.progress.fields { outbox = outbox }) (messages_of p.progress.history.turns)) p.progress.fault =
+    ran_more (platform_graph p) (level_of (arc_value p.plan).ranks) p.number (rows_at_sensors p.progress.fields.sensors.items) p.progress.history.turns (state_of p.progress.fields (messages_of p.progress.history.turns)) p.progress.fault (m ∷ []) (λ k. on_link k outbox.items) is.ran w.begun
+    (front p l m outbox history w) (may_follow l m (last_sent p.progress.history.turns) w.on w.few) in
     record {
       admitted = is.admitted;
       sound = record { groups = is.sound.groups; states = is.sound.states; open_claims = is.sound.open_claims; links = w.links ∙ is.sound.links; at_units = is.sound.at_units };
@@ -124,8 +124,8 @@ is_lighter p l m outbox history is w =
       fit = is.fit;
       closing = is.closing;
       claims = is.claims;
-      ran = subst (λ ms. Ran (platform_graph p) (level_of (arc_value p.plan).ranks) p.number (rows_at_sensors p.fields.sensors.items) history.turns (state_of (record p.fields { outbox = outbox }) ms) p.fault) (sym taken)
-          (subst (λ ts. Ran (platform_graph p) (level_of (arc_value p.plan).ranks) p.number (rows_at_sensors p.fields.sensors.items) ts (state_of (record p.fields { outbox = outbox }) (messages_of p.history.turns)) p.fault) (sym w.turns) ran);
+      ran = subst (λ ms. Ran (platform_graph p) (level_of (arc_value p.plan).ranks) p.number (rows_at_sensors p.progress.fields.sensors.items) history.turns (state_of (record p.progress.fields { outbox = outbox }) ms) p.progress.fault) (sym taken)
+          (subst (λ ts. Ran (platform_graph p) (level_of (arc_value p.plan).ranks) p.number (rows_at_sensors p.progress.fields.sensors.items) ts (state_of (record p.progress.fields { outbox = outbox }) (messages_of p.progress.history.turns)) p.progress.fault) (sym w.turns) ran);
       empty = is.empty;
       sent = omega (arith, w.len, sent, is.sent);
       room = room_still p l m outbox history p.room w is.room;
@@ -138,6 +138,6 @@ has_gone p l m outbox history w = record {
   message = m.message;
   first = w.first;
   others = w.others;
-  sent = w.turns ∙ ap (λ k. on_last (sending (record { link = k; message = m.message } ∷ [])) p.history.turns) w.on;
+  sent = w.turns ∙ ap (λ k. on_last (sending (record { link = k; message = m.message } ∷ [])) p.progress.history.turns) w.on;
   rest = refl;
 }

@@ -80,26 +80,26 @@ each_just P a b row h = ⊎_elim
 
 -- the platform with other sensors, and memory for no turn
 abbrev pub with_sensors : Inside → Vec Sensor → ℕ → Inside
-with_sensors p sensors next_row = record p { fields = record p.fields { sensors = sensors }; room = None; next = None; next_row = next_row }
+with_sensors p sensors next_row = record p { progress = record p.progress { fields = record p.progress.fields { sensors = sensors }; next_row = next_row }; room = None; next = None }
 
 -- the sensors have one more row
-at_place : (p : Inside) (sensors : Vec Sensor) (a k : ℕ) (d : Sensor) (row : Row) → IsPlatform p → MayArriveAt (view_of p) a row k → sensors.items ≡ set p.fields.sensors.items k (with_row row (get_or p.fields.sensors.items k d)) → Arrived (platform_graph p) p.fields.sensors.items a row sensors.items
+at_place : (p : Inside) (sensors : Vec Sensor) (a k : ℕ) (d : Sensor) (row : Row) → IsPlatform p → MayArriveAt (view_of p) a row k → sensors.items ≡ set p.progress.fields.sensors.items k (with_row row (get_or p.progress.fields.sensors.items k d)) → Arrived (platform_graph p) p.progress.fields.sensors.items a row sensors.items
 at_place p sensors a k d row is may new =
     let g : Graph = platform_graph p in
-    let ss : List Sensor = p.fields.sensors.items in
+    let ss : List Sensor = p.progress.fields.sensors.items in
     let own : rows_at_sensors ss a ≡ (get_or ss k d).rows = ap (rows_at_sensors ss) (sym (may.actor d)) ∙ found_at ss 0 k d is.sensors.0 may.within in
     subst (λ z. Arrived g ss a row z) (sym new)
     (subst (λ b. Arrived g ss b row (set ss k (with_row row (get_or ss k d)))) (may.actor d)
     (arrived g ss k d row is.sensors may.within (subst TimesRise own (is.fit.times a)) (subst (Each (λ (x : Row). x.time < row.time)) own may.may.next.times)))
 
-state_grown : (p : Inside) (sensors : Vec Sensor) (a next_row : ℕ) (row : Row) → Arrived (platform_graph p) p.fields.sensors.items a row sensors.items → state_at (view_of (with_sensors p sensors next_row)) ≡ grown (just a row) (state_at (view_of p))
+state_grown : (p : Inside) (sensors : Vec Sensor) (a next_row : ℕ) (row : Row) → Arrived (platform_graph p) p.progress.fields.sensors.items a row sensors.items → state_at (view_of (with_sensors p sensors next_row)) ≡ grown (just a row) (state_at (view_of p))
 state_grown p sensors a next_row row new = λ i. record (state_at (view_of p)) { left = λ b. new.left b i }
 
 -- a platform with one more row is a platform
-pub is_platform : (p : Inside) (sensors : Vec Sensor) (a k : ℕ) (d : Sensor) (next_row : ℕ) (row : Row) → IsPlatform p → MayArriveAt (view_of p) a row k → sensors.items ≡ set p.fields.sensors.items k (with_row row (get_or p.fields.sensors.items k d)) → next_row ≤ p.next_row → next_row ≤ row.seen → IsPlatform (with_sensors p sensors next_row)
+pub is_platform : (p : Inside) (sensors : Vec Sensor) (a k : ℕ) (d : Sensor) (next_row : ℕ) (row : Row) → IsPlatform p → MayArriveAt (view_of p) a row k → sensors.items ≡ set p.progress.fields.sensors.items k (with_row row (get_or p.progress.fields.sensors.items k d)) → next_row ≤ p.progress.next_row → next_row ≤ row.seen → IsPlatform (with_sensors p sensors next_row)
 is_platform p sensors a k d next_row row is may set_is no_later before =
     let g : Graph = platform_graph p in
-    let ss : List Sensor = p.fields.sensors.items in
+    let ss : List Sensor = p.progress.fields.sensors.items in
     let level : ℕ → ℕ = level_of (arc_value p.plan).ranks in
     let new : Arrived g ss a row sensors.items = at_place p sensors a k d row is may set_is in
     let rows : rows_at_sensors sensors.items ≡ followed (rows_at_sensors ss) (just a row) = λ i b. new.rows b i in
@@ -111,9 +111,9 @@ is_platform p sensors a k d next_row row is may set_is no_later before =
       fit = subst (FitRows g) (sym rows) (rows_next g (rows_at_sensors ss) a row is.fit (record { fits = may.may.next.fits; times = may.may.next.times; seen = may.may.next.seen }));
       closing = is.closing;
       claims = is.claims;
-      ran = subst (λ z. Ran g level p.number z p.history.turns (state_at (view_of (with_sensors p sensors next_row))) p.fault) (sym rows)
-          (subst (λ z. Ran g level p.number (followed (rows_at_sensors ss) (just a row)) p.history.turns z p.fault) (sym (state_grown p sensors a next_row row new))
-          (ran_grown g level p.number (rows_at_sensors ss) a row p.history.turns (state_at (view_of p)) p.fault may.may.home (λ q read. later q (may.may.next.read q read)) is.ran));
+      ran = subst (λ z. Ran g level p.number z p.progress.history.turns (state_at (view_of (with_sensors p sensors next_row))) p.progress.fault) (sym rows)
+          (subst (λ z. Ran g level p.number (followed (rows_at_sensors ss) (just a row)) p.progress.history.turns z p.progress.fault) (sym (state_grown p sensors a next_row row new))
+          (ran_grown g level p.number (rows_at_sensors ss) a row p.progress.history.turns (state_at (view_of p)) p.progress.fault may.may.home (λ q read. later q (may.may.next.read q read)) is.ran));
       empty = is.empty;
       sent = is.sent;
       room = tt;
@@ -125,20 +125,20 @@ is_platform p sensors a k d next_row row is may set_is no_later before =
     }
 
 -- and it is the one before with this row
-pub has_arrived : (p : Inside) (sensors : Vec Sensor) (a k : ℕ) (d : Sensor) (next_row : ℕ) (row : Row) → IsPlatform p → MayArriveAt (view_of p) a row k → sensors.items ≡ set p.fields.sensors.items k (with_row row (get_or p.fields.sensors.items k d)) → HasArrived (view_of p) (view_of (with_sensors p sensors next_row)) a row
+pub has_arrived : (p : Inside) (sensors : Vec Sensor) (a k : ℕ) (d : Sensor) (next_row : ℕ) (row : Row) → IsPlatform p → MayArriveAt (view_of p) a row k → sensors.items ≡ set p.progress.fields.sensors.items k (with_row row (get_or p.progress.fields.sensors.items k d)) → HasArrived (view_of p) (view_of (with_sensors p sensors next_row)) a row
 has_arrived p sensors a k d next_row row is may set_is =
-    let new : Arrived (platform_graph p) p.fields.sensors.items a row sensors.items = at_place p sensors a k d row is may set_is in
+    let new : Arrived (platform_graph p) p.progress.fields.sensors.items a row sensors.items = at_place p sensors a k d row is may set_is in
     record { same = refl; rows = new.rows; state = state_grown p sensors a next_row row new }
 
 -- the platform with sensors that have the same items
 abbrev pub with_same : Inside → Vec Sensor → Inside
-with_same p sensors = record p { fields = record p.fields { sensors = sensors } }
+with_same p sensors = record p { progress = record p.progress { fields = record p.progress.fields { sensors = sensors } } }
 
-roomy_same : (p : Inside) (sensors : Vec Sensor) (r : Room) → sensors.items ≡ p.fields.sensors.items → IsRoomy p r → IsRoomy (with_same p sensors) r
+roomy_same : (p : Inside) (sensors : Vec Sensor) (r : Room) → sensors.items ≡ p.progress.fields.sensors.items → IsRoomy p r → IsRoomy (with_same p sensors) r
 roomy_same p sensors r same h =
     let g : Graph = platform_graph p in
-    let at : ℕ = raised_to p.fields.reading r.reading in
-    let due : count_due g at (record p.fields { sensors = sensors }) ≡ count_due g at p.fields = ap (λ (ss : List Sensor). length (all_due g at (left_in ss))) same in
+    let at : ℕ = raised_to p.progress.fields.reading r.reading in
+    let due : count_due g at (record p.progress.fields { sensors = sensors }) ≡ count_due g at p.progress.fields = ap (λ (ss : List Sensor). length (all_due g at (left_in ss))) same in
     record {
       fields = record {
         events = omega (arith, due, h.fields.events);
@@ -157,12 +157,12 @@ roomy_same p sensors r same h =
       sent = h.sent;
     }
 
-still_roomy : (p : Inside) (sensors : Vec Sensor) (o : Option Room) → sensors.items ≡ p.fields.sensors.items → MatchOption o (Unit {0}) (IsRoomy p) → MatchOption o (Unit {0}) (IsRoomy (with_same p sensors))
+still_roomy : (p : Inside) (sensors : Vec Sensor) (o : Option Room) → sensors.items ≡ p.progress.fields.sensors.items → MatchOption o (Unit {0}) (IsRoomy p) → MatchOption o (Unit {0}) (IsRoomy (with_same p sensors))
 still_roomy p sensors None same h = tt
 still_roomy p sensors (Some r) same h = roomy_same p sensors r same h
 
 -- is a platform
-pub is_same : (p : Inside) (sensors : Vec Sensor) → sensors.items ≡ p.fields.sensors.items → IsPlatform p → IsPlatform (with_same p sensors)
+pub is_same : (p : Inside) (sensors : Vec Sensor) → sensors.items ≡ p.progress.fields.sensors.items → IsPlatform p → IsPlatform (with_same p sensors)
 is_same p sensors same is =
     let g : Graph = platform_graph p in
     let s : State = state_at (view_of p) in
@@ -173,12 +173,12 @@ is_same p sensors same is =
       fit = subst (λ ss. FitRows g (rows_at_sensors ss)) (sym same) is.fit;
       closing = is.closing;
       claims = is.claims;
-      ran = subst (λ (ss : List Sensor). Ran g (level_of (arc_value p.plan).ranks) p.number (rows_at_sensors ss) p.history.turns (record s { left = left_in ss }) p.fault) (sym same) is.ran;
+      ran = subst (λ (ss : List Sensor). Ran g (level_of (arc_value p.plan).ranks) p.number (rows_at_sensors ss) p.progress.history.turns (record s { left = left_in ss }) p.progress.fault) (sym same) is.ran;
       empty = is.empty;
       sent = is.sent;
       room = still_roomy p sensors p.room same is.room;
       next = subst (λ (ss : List Sensor). MatchOption p.next (Unit {0}) (IsNextReading g p.number (record s { left = left_in ss }))) (sym same) is.next;
-      next_row = subst (λ ss. NoneSeenBefore p.next_row (left_in ss)) (sym same) is.next_row;
+      next_row = subst (λ ss. NoneSeenBefore p.progress.next_row (left_in ss)) (sym same) is.next_row;
     }
 
 -- the sensors where a row was refused
@@ -186,32 +186,32 @@ pub same_items : (ss : List Sensor) (k : ℕ) (d new : Sensor) → new ≡ get_o
 same_items ss k d new is = ap (set ss k) is ∙ set-get_or ss k d
 
 -- no entry of this sensor is there
-pub no_sensor : (p : Inside) (a : ℕ) → position (is_of a) p.fields.sensors.items ≡ None → HasSensor (view_of p) a → ⊥
-no_sensor p a none has = no_place p.fields.sensors.items a has.entry none has.is_in has.is_of
+pub no_sensor : (p : Inside) (a : ℕ) → position (is_of a) p.progress.fields.sensors.items ≡ None → HasSensor (view_of p) a → ⊥
+no_sensor p a none has = no_place p.progress.fields.sensors.items a has.entry none has.is_in has.is_of
 
 -- the rows of the sensor at a place are in order
-pub in_order : (p : Inside) (k : ℕ) (s : Sensor) → IsPlatform p → k < length p.fields.sensors.items → s ≡ get_or p.fields.sensors.items k s → AreInOrder s.rows
+pub in_order : (p : Inside) (k : ℕ) (s : Sensor) → IsPlatform p → k < length p.progress.fields.sensors.items → s ≡ get_or p.progress.fields.sensors.items k s → AreInOrder s.rows
 in_order p k s is lt at =
-    let ss : List Sensor = p.fields.sensors.items in
+    let ss : List Sensor = p.progress.fields.sensors.items in
     let own : rows_at_sensors ss (get_or ss k s).actor ≡ (get_or ss k s).rows = found_at ss 0 k s is.sensors.0 lt in
     subst (λ (z : Sensor). AreInOrder z.rows) (sym at) (subst AreInOrder own (is.fit.in_order (get_or ss k s).actor, is.fit.times (get_or ss k s).actor))
 
 -- what was tested of the sensor at a place is said of the platform
-said : (p : Inside) (a k : ℕ) (s : Sensor) (P : ℕ → List Row → Type 0) → IsPlatform p → position (is_of a) p.fields.sensors.items ≡ Some k → s ≡ get_or p.fields.sensors.items k s → P s.actor s.rows → P a (rows_at_sensors p.fields.sensors.items a)
+said : (p : Inside) (a k : ℕ) (s : Sensor) (P : ℕ → List Row → Type 0) → IsPlatform p → position (is_of a) p.progress.fields.sensors.items ≡ Some k → s ≡ get_or p.progress.fields.sensors.items k s → P s.actor s.rows → P a (rows_at_sensors p.progress.fields.sensors.items a)
 said p a k s P is found at h =
-    let ss : List Sensor = p.fields.sensors.items in
+    let ss : List Sensor = p.progress.fields.sensors.items in
     let place = position-Some (is_of a) ss k s found in
     let actor : (get_or ss k s).actor ≡ a = eqb-true (get_or ss k s).actor a place.1 in
     let own : rows_at_sensors ss a ≡ (get_or ss k s).rows = ap (rows_at_sensors ss) (sym actor) ∙ found_at ss 0 k s is.sensors.0 place.0 in
     subst (P a) (sym own) (subst (λ b. P b (get_or ss k s).rows) actor (subst (λ (z : Sensor). P z.actor z.rows) at h))
 
-pub may_at : (p : Inside) (a k : ℕ) (row : Row) (s : Sensor) → IsPlatform p → position (is_of a) p.fields.sensors.items ≡ Some k → s ≡ get_or p.fields.sensors.items k s → platform_of (platform_graph p) a ≡ p.number → IsNext (platform_graph p) s.actor s.rows p.fields.reading row → MayArriveAt (view_of p) a row k
+pub may_at : (p : Inside) (a k : ℕ) (row : Row) (s : Sensor) → IsPlatform p → position (is_of a) p.progress.fields.sensors.items ≡ Some k → s ≡ get_or p.progress.fields.sensors.items k s → platform_of (platform_graph p) a ≡ p.number → IsNext (platform_graph p) s.actor s.rows p.progress.fields.reading row → MayArriveAt (view_of p) a row k
 may_at p a k row s is found at home next =
-    let ss : List Sensor = p.fields.sensors.items in
+    let ss : List Sensor = p.progress.fields.sensors.items in
     record {
       within = (position-Some (is_of a) ss k s found).0;
       actor = λ d. eqb-true (get_or ss k d).actor a (position-Some (is_of a) ss k d found).1;
-      may = record { home = home; next = said p a k s (λ b rows. IsNext (platform_graph p) b rows p.fields.reading row) is found at next };
+      may = record { home = home; next = said p a k s (λ b rows. IsNext (platform_graph p) b rows p.progress.fields.reading row) is found at next };
     }
 
 refused : (v : PlatformView) (a : ℕ) (row : Row) (why : Unfit) → ShowsUnfit v.plan.graph a (rows_at v a) v.reading row why → ShowsRefused v a row why
@@ -223,5 +223,5 @@ refused v a row (unfit.Late limit) h = h
 refused v a row unfit.NotSeenNext h = h
 refused v a row unfit.Memory h = h
 
-pub why_not : (p : Inside) (a k : ℕ) (row : Row) (s : Sensor) (why : Unfit) → IsPlatform p → position (is_of a) p.fields.sensors.items ≡ Some k → s ≡ get_or p.fields.sensors.items k s → ShowsUnfit (platform_graph p) s.actor s.rows p.fields.reading row why → ShowsRefused (view_of p) a row why
-why_not p a k row s why is found at h = refused (view_of p) a row why (said p a k s (λ b rows. ShowsUnfit (platform_graph p) b rows p.fields.reading row why) is found at h)
+pub why_not : (p : Inside) (a k : ℕ) (row : Row) (s : Sensor) (why : Unfit) → IsPlatform p → position (is_of a) p.progress.fields.sensors.items ≡ Some k → s ≡ get_or p.progress.fields.sensors.items k s → ShowsUnfit (platform_graph p) s.actor s.rows p.progress.fields.reading row why → ShowsRefused (view_of p) a row why
+why_not p a k row s why is found at h = refused (view_of p) a row why (said p a k s (λ b rows. ShowsUnfit (platform_graph p) b rows p.progress.fields.reading row why) is found at h)

@@ -25,39 +25,39 @@ use Rattle.pt_turn.proofs.Turns.{NextTurn, next_turn}
 
 -- the levels, the number and what was taken
 abbrev pub basis_of : Inside → Basis
-basis_of p = record { level = level_of (arc_value p.plan).ranks; platform = p.number; taken = messages_of p.history.turns }
+basis_of p = record { level = level_of (arc_value p.plan).ranks; platform = p.number; taken = messages_of p.progress.history.turns }
 
-pub still_runs : (p : Inside) → IsPlatform p → p.fault ≡ None → Ran (platform_graph p) (level_of (arc_value p.plan).ranks) p.number (rows_at_sensors p.fields.sensors.items) p.history.turns (state_of p.fields (messages_of p.history.turns)) None
-still_runs p is on = subst (λ (fault : Option TurnFault). Ran (platform_graph p) (level_of (arc_value p.plan).ranks) p.number (rows_at_sensors p.fields.sensors.items) p.history.turns (state_of p.fields (messages_of p.history.turns)) fault) on is.ran
+pub still_runs : (p : Inside) → IsPlatform p → p.progress.fault ≡ None → Ran (platform_graph p) (level_of (arc_value p.plan).ranks) p.number (rows_at_sensors p.progress.fields.sensors.items) p.progress.history.turns (state_of p.progress.fields (messages_of p.progress.history.turns)) None
+still_runs p is on = subst (λ (fault : Option TurnFault). Ran (platform_graph p) (level_of (arc_value p.plan).ranks) p.number (rows_at_sensors p.progress.fields.sensors.items) p.progress.history.turns (state_of p.progress.fields (messages_of p.progress.history.turns)) fault) on is.ran
 
-pub is_ready : (p : Inside) (room : Room) (reading n : ℕ) (results : List Done) (messages : List OnLink) → IsPlatform p → p.fault ≡ None → IsRoomy p room → IsEnough reading (length results) (length messages) n room → (1 ≤ n) × (n ≤ 64) → AreDone (platform_graph p) results
+pub is_ready : (p : Inside) (room : Room) (reading n : ℕ) (results : List Done) (messages : List OnLink) → IsPlatform p → p.progress.fault ≡ None → IsRoomy p room → IsEnough reading (length results) (length messages) n room → (1 ≤ n) × (n ≤ 64) → AreDone (platform_graph p) results
     → MayCome (platform_graph p) (level_of (arc_value p.plan).ranks) p.number (state_at (view_of p)) messages
-    → IsReady (arc_value p.plan) (basis_of p) p.number p.closing (raised_to p.fields.reading reading) n results messages p.fields p.lists
+    → IsReady (arc_value p.plan) (basis_of p) p.number p.closing (raised_to p.progress.fields.reading reading) n results messages p.progress.fields p.progress.lists
 is_ready p room reading n results messages is on roomy enough most done may =
     let is_wired : IsWired (platform_graph p) = wired (platform_graph p) is.admitted.lawful in
     let ran = still_runs p is on in
-    let next : NextTurn (platform_graph p) (level_of (arc_value p.plan).ranks) p.number (state_of p.fields (messages_of p.history.turns)) ran.all = next_turn (platform_graph p) (level_of (arc_value p.plan).ranks) p.number (rows_at_sensors p.fields.sensors.items) p.history.turns (state_of p.fields (messages_of p.history.turns)) is_wired is.admitted.levels is.fit ran in
+    let next : NextTurn (platform_graph p) (level_of (arc_value p.plan).ranks) p.number (state_of p.progress.fields (messages_of p.progress.history.turns)) ran.all = next_turn (platform_graph p) (level_of (arc_value p.plan).ranks) p.number (rows_at_sensors p.progress.fields.sensors.items) p.progress.history.turns (state_of p.progress.fields (messages_of p.progress.history.turns)) is_wired is.admitted.levels is.fit ran in
     record {
       sound = is.sound;
       sensors = is.sensors;
       goes_on = record {
         never = next.never;
-        fit = open_claims_fit (platform_graph p) (level_of (arc_value p.plan).ranks) (claims_of (platform_graph p) ran.all) p.fields (messages_of p.history.turns) is.admitted.lawful is_wired is.admitted.levels is.sound next.bounded;
+        fit = open_claims_fit (platform_graph p) (level_of (arc_value p.plan).ranks) (claims_of (platform_graph p) ran.all) p.progress.fields (messages_of p.progress.history.turns) is.admitted.lawful is_wired is.admitted.levels is.sound next.bounded;
       };
       platform = refl;
       closing = is.closing;
-      rises = raised_rises p.fields.reading reading;
+      rises = raised_rises p.progress.fields.reading reading;
       dones = done;
       arrive = arrive (platform_graph p) (basis_of p) (state_at (view_of p)) messages (λ l. refl) may;
       most = most;
       claims = is.claims;
-      room = has_room_on (platform_graph p) p.fields p.lists (raised_to p.fields.reading reading) (raised_to p.fields.reading room.reading) (length results) room.done (length messages) room.taken n room.most (raised_on p.fields.reading reading room.reading enough.reading) enough.done enough.taken enough.most roomy.fields;
+      room = has_room_on (platform_graph p) p.progress.fields p.progress.lists (raised_to p.progress.fields.reading reading) (raised_to p.progress.fields.reading room.reading) (length results) room.done (length messages) room.taken n room.most (raised_on p.progress.fields.reading reading room.reading enough.reading) enough.done enough.taken enough.most roomy.fields;
       empty = is.empty;
     }
 
-pub can_keep : (p : Inside) (room : Room) (reading n : ℕ) (dones messages : ℕ) → IsRoomy p room → IsEnough reading dones messages n room → CanKeep (arc_value p.plan) (raised_to p.fields.reading reading) dones messages n p.fields p.history.room
+pub can_keep : (p : Inside) (room : Room) (reading n : ℕ) (dones messages : ℕ) → IsRoomy p room → IsEnough reading dones messages n room → CanKeep (arc_value p.plan) (raised_to p.progress.fields.reading reading) dones messages n p.progress.fields p.progress.history.room
 can_keep p room reading n dones messages roomy enough =
-    let due = count_on (platform_graph p) (raised_to p.fields.reading reading) (raised_to p.fields.reading room.reading) p.fields (raised_on p.fields.reading reading room.reading enough.reading) in
+    let due = count_on (platform_graph p) (raised_to p.progress.fields.reading reading) (raised_to p.progress.fields.reading room.reading) p.progress.fields (raised_on p.progress.fields.reading reading room.reading enough.reading) in
     record {
       turns = roomy.turns;
       posted = omega (arith, roomy.posted, enough.done);

@@ -29,7 +29,7 @@ use Rattle.pt_turn.specs.Platforms.{IsPlatform, IsRoomy, platform_graph, message
 use Rattle.pt_turn.specs.Running.{Ran}
 
 abbrev pub wider : Inside → Fields → History → Lists → Option Room → Inside
-wider p fields history lists room = record { plan = p.plan; number = p.number; closing = p.closing; fields = fields; history = history; lists = lists; fault = p.fault; room = room; next = p.next; next_row = p.next_row }
+wider p fields history lists room = record { plan = p.plan; number = p.number; closing = p.closing; progress = record { fields = fields; history = history; lists = lists; fault = p.progress.fault; next_row = p.progress.next_row }; room = room; next = p.next }
 
 same_state : (old new : Fields) (taken : List OnLink) → AreWider old new → state_of new taken ≡ state_of old taken
 same_state old new taken w = λ i. record {
@@ -56,17 +56,17 @@ sound_still g old new w is = record {
 due_still : (g : Graph) (r : ℕ) (old new : Fields) → AreWider old new → count_due g r new ≡ count_due g r old
 due_still g r old new w = ap (λ v. length (all_due g r (left_in v.items))) w.sensors
 
-pub is_wider : (p : Inside) (fields : Fields) (history : History) (lists : Lists) (room : Option Room) → IsPlatform p → AreWider p.fields fields → HistoryIsWider p.history history → ListsAreWider p.lists lists → MatchOption room (Unit {0}) (IsRoomy (wider p fields history lists room)) → IsPlatform (wider p fields history lists room)
+pub is_wider : (p : Inside) (fields : Fields) (history : History) (lists : Lists) (room : Option Room) → IsPlatform p → AreWider p.progress.fields fields → HistoryIsWider p.progress.history history → ListsAreWider p.progress.lists lists → MatchOption room (Unit {0}) (IsRoomy (wider p fields history lists room)) → IsPlatform (wider p fields history lists room)
 is_wider p fields history lists room is f h l roomy = record {
   admitted = is.admitted;
-  sound = sound_still (platform_graph p) p.fields fields f is.sound;
+  sound = sound_still (platform_graph p) p.progress.fields fields f is.sound;
   sensors = subst (λ v. AreSensors (platform_graph p) v.items) (sym f.sensors) is.sensors;
   fit = subst (λ v. FitRows (platform_graph p) (rows_at_sensors v.items)) (sym f.sensors) is.fit;
   closing = is.closing;
   claims = subst (λ n. n ≤ (platform_graph p).claims) (sym f.claims) is.claims;
-  ran = subst (λ v. Ran (platform_graph p) (level_of (arc_value p.plan).ranks) p.number (rows_at_sensors v.items) history.turns (state_of fields (messages_of history.turns)) p.fault) (sym f.sensors)
-      (subst (λ ts. Ran (platform_graph p) (level_of (arc_value p.plan).ranks) p.number (rows_at_sensors p.fields.sensors.items) ts (state_of fields (messages_of ts)) p.fault) (sym h.turns)
-      (subst (λ s. Ran (platform_graph p) (level_of (arc_value p.plan).ranks) p.number (rows_at_sensors p.fields.sensors.items) p.history.turns s p.fault) (sym (same_state p.fields fields (messages_of p.history.turns) f)) is.ran));
+  ran = subst (λ v. Ran (platform_graph p) (level_of (arc_value p.plan).ranks) p.number (rows_at_sensors v.items) history.turns (state_of fields (messages_of history.turns)) p.progress.fault) (sym f.sensors)
+      (subst (λ ts. Ran (platform_graph p) (level_of (arc_value p.plan).ranks) p.number (rows_at_sensors p.progress.fields.sensors.items) ts (state_of fields (messages_of ts)) p.progress.fault) (sym h.turns)
+      (subst (λ s. Ran (platform_graph p) (level_of (arc_value p.plan).ranks) p.number (rows_at_sensors p.progress.fields.sensors.items) p.progress.history.turns s p.progress.fault) (sym (same_state p.progress.fields fields (messages_of p.progress.history.turns) f)) is.ran));
   empty = record {
     posted = l.posted.items ∙ is.empty.posted;
     rows = l.rows.items ∙ is.empty.rows;
@@ -75,17 +75,17 @@ is_wider p fields history lists room is f h l roomy = record {
   };
   sent = omega (arith, ap length f.outbox.items, h.sent, is.sent);
   room = roomy;
-  next = subst (λ (s : State). MatchOption p.next (Unit {0}) (IsNextReading (platform_graph p) p.number s)) (sym (ap (λ ts. state_of fields (messages_of ts)) h.turns ∙ same_state p.fields fields (messages_of p.history.turns) f)) is.next;
-  next_row = subst (λ v. NoneSeenBefore p.next_row (left_in v.items)) (sym f.sensors) is.next_row;
+  next = subst (λ (s : State). MatchOption p.next (Unit {0}) (IsNextReading (platform_graph p) p.number s)) (sym (ap (λ ts. state_of fields (messages_of ts)) h.turns ∙ same_state p.progress.fields fields (messages_of p.progress.history.turns) f)) is.next;
+  next_row = subst (λ v. NoneSeenBefore p.progress.next_row (left_in v.items)) (sym f.sensors) is.next_row;
 }
 
 -- what there was room for there still is
-roomy_still : (p : Inside) (fields : Fields) (history : History) (lists : Lists) (o : Option Room) (r : Room) → AreWider p.fields fields → HistoryIsWider p.history history → ListsAreWider p.lists lists → IsRoomy p r → IsRoomy (wider p fields history lists o) r
+roomy_still : (p : Inside) (fields : Fields) (history : History) (lists : Lists) (o : Option Room) (r : Room) → AreWider p.progress.fields fields → HistoryIsWider p.progress.history history → ListsAreWider p.progress.lists lists → IsRoomy p r → IsRoomy (wider p fields history lists o) r
 roomy_still p fields history lists o r f h l roomy =
     let g : Graph = platform_graph p in
-    let at : raised_to fields.reading r.reading ≡ raised_to p.fields.reading r.reading = ap (λ z. raised_to z r.reading) f.reading in
-    let due : count_due g (raised_to fields.reading r.reading) fields ≡ count_due g (raised_to p.fields.reading r.reading) p.fields = ap (λ n. count_due g n fields) at ∙ due_still g (raised_to p.fields.reading r.reading) p.fields fields f in
-    let leaving : leaving_open g (busy_in fields.open_claims.items) g.wires ≡ leaving_open g (busy_in p.fields.open_claims.items) g.wires = ap (λ cs. leaving_open g (busy_in cs) g.wires) f.open_claims in
+    let at : raised_to fields.reading r.reading ≡ raised_to p.progress.fields.reading r.reading = ap (λ z. raised_to z r.reading) f.reading in
+    let due : count_due g (raised_to fields.reading r.reading) fields ≡ count_due g (raised_to p.progress.fields.reading r.reading) p.progress.fields = ap (λ n. count_due g n fields) at ∙ due_still g (raised_to p.progress.fields.reading r.reading) p.progress.fields fields f in
+    let leaving : leaving_open g (busy_in fields.open_claims.items) g.wires ≡ leaving_open g (busy_in p.progress.fields.open_claims.items) g.wires = ap (λ cs. leaving_open g (busy_in cs) g.wires) f.open_claims in
     record {
       fields = record {
         events = omega (arith, leaving, due, roomy.fields.events, f.spare);
@@ -104,16 +104,16 @@ roomy_still p fields history lists o r f h l roomy =
       sent = omega (arith, ap length f.outbox.items, h.sent, roomy.sent);
     }
 
-pub room_still : (p : Inside) (fields : Fields) (history : History) (lists : Lists) (o room : Option Room) → AreWider p.fields fields → HistoryIsWider p.history history → ListsAreWider p.lists lists → MatchOption room (Unit {0}) (IsRoomy p) → MatchOption room (Unit {0}) (IsRoomy (wider p fields history lists o))
+pub room_still : (p : Inside) (fields : Fields) (history : History) (lists : Lists) (o room : Option Room) → AreWider p.progress.fields fields → HistoryIsWider p.progress.history history → ListsAreWider p.progress.lists lists → MatchOption room (Unit {0}) (IsRoomy p) → MatchOption room (Unit {0}) (IsRoomy (wider p fields history lists o))
 room_still p fields history lists o None f h l roomy = tt
 room_still p fields history lists o (Some r) f h l roomy = roomy_still p fields history lists o r f h l roomy
 
 -- and what is met is enough for a turn
-pub is_roomy : (p : Inside) (fields : Fields) (history : History) (lists : Lists) (o : Option Room) (r : Room) (needs : Needs) → AreWider p.fields fields → AreEnough (platform_graph p) p.fields (raised_to p.fields.reading r.reading) r needs → FieldsMeet needs fields → ListsMeet needs lists → HistoryMeets needs history.room → IsRoomy (wider p fields history lists o) r
+pub is_roomy : (p : Inside) (fields : Fields) (history : History) (lists : Lists) (o : Option Room) (r : Room) (needs : Needs) → AreWider p.progress.fields fields → AreEnough (platform_graph p) p.progress.fields (raised_to p.progress.fields.reading r.reading) r needs → FieldsMeet needs fields → ListsMeet needs lists → HistoryMeets needs history.room → IsRoomy (wider p fields history lists o) r
 is_roomy p fields history lists o r needs f enough met listed kept =
     let g : Graph = platform_graph p in
-    let at : raised_to fields.reading r.reading ≡ raised_to p.fields.reading r.reading = ap (λ z. raised_to z r.reading) f.reading in
-    let due : count_due g (raised_to fields.reading r.reading) fields ≡ count_due g (raised_to p.fields.reading r.reading) p.fields = ap (λ n. count_due g n fields) at ∙ due_still g (raised_to p.fields.reading r.reading) p.fields fields f in
+    let at : raised_to fields.reading r.reading ≡ raised_to p.progress.fields.reading r.reading = ap (λ z. raised_to z r.reading) f.reading in
+    let due : count_due g (raised_to fields.reading r.reading) fields ≡ count_due g (raised_to p.progress.fields.reading r.reading) p.progress.fields = ap (λ n. count_due g n fields) at ∙ due_still g (raised_to p.progress.fields.reading r.reading) p.progress.fields fields f in
     let leaving : leaving_open g (busy_in fields.open_claims.items) g.wires ≤ length g.wires = count_by-le-length _ g.wires in
     record {
       fields = record {

@@ -2,7 +2,7 @@
 use Rattle.std.specs.Prelude.{◌≡◌, ℕ, ◌+◌, ◌-◌, ◌*◌, ◌^◌, ◌==◌, ◌≤◌, if◌then◌else◌, Vec, length, min, vec_len, vec_capacity}
 use Rattle.pt_types.specs.declared.graph.Graph.{Graph}
 use Rattle.pt_history.specs.declared.history.History.{History}
-use Rattle.pt_history.specs.declared.room.Room.{Room as HistoryRoom}
+use Rattle.pt_history.specs.declared.room.HistoryRoom.{HistoryRoom}
 use Rattle.pt_turn.specs.declared.state.fields.Fields.{Fields}
 use Rattle.pt_turn.specs.Fields.Outbox.{OutboxView}
 use Rattle.pt_turn.specs.declared.steps.Lists.{Lists}

@@ -12,8 +12,8 @@ use Rattle.pt_turn.specs.Fields.State.{IsSound}
 use Rattle.pt_turn.specs.Posts.Posted.{AreDone}
 use Rattle.pt_turn.specs.Fields.Sensors.{AreSensors}
 use Rattle.pt_turn.specs.Takes.Taken.{Arrive, Basis}
-use Rattle.pt_history.specs.declared.room.Room.{Room as HistoryRoom}
-use Rattle.pt_turn.specs.declared.claim_step.Ending.{Ending}
+use Rattle.pt_history.specs.declared.room.HistoryRoom.{HistoryRoom}
+use Rattle.pt_turn.specs.declared.claim_step.TurnEnd.{TurnEnd}
 use Rattle.pt_turn.specs.declared.steps.Lists.{Lists}
 use Rattle.pt_turn.specs.Steps.{AreEmpty, HasRoom, IsGround, IsMade, ShowsEnd, count_due, turn_of}
 use Rattle.pt_turn.specs.declared.fault.TurnFault.{TurnFault}
@@ -45,7 +45,7 @@ pub record CanKeep (plan : Parts) (r dones messages most : ℕ) (f : Fields) (ro
 -- the turn was made and recorded, its claims were appended to the tasks, and this is its fault
 pub record IsRecordedTurn (plan : Parts) (w : Basis) (r most : ℕ) (dones : List Done) (messages : List OnLink) (old new : Fields) (before after : List Turn) (handed now : List Task) (fault : Option TurnFault) : Type 0 where
   pub lists : Lists
-  pub ending : Ending
+  pub ending : TurnEnd
   pub made : IsMade plan.graph w r most dones messages old new lists ending
   pub full : ShowsEnd plan.graph r new ending
   pub names : IsFaultOf plan.graph old.reading lists.taken.items ending fault

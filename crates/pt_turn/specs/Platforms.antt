@@ -77,16 +77,16 @@ abbrev pub view_of : Inside → PlatformView
 view_of p = record {
   plan = arc_value p.plan;
   number = p.number;
-  sensors = p.fields.sensors.items;
-  turns = p.history.turns;
-  events = p.fields.queue.events;
-  open_claims = p.fields.open_claims.items;
-  states = p.fields.states.items;
-  outbox = p.fields.outbox.items;
-  reading = p.fields.reading;
-  closed = p.fields.closed;
-  claims = p.fields.claims;
-  fault = p.fault;
+  sensors = p.progress.fields.sensors.items;
+  turns = p.progress.history.turns;
+  events = p.progress.fields.queue.events;
+  open_claims = p.progress.fields.open_claims.items;
+  states = p.progress.fields.states.items;
+  outbox = p.progress.fields.outbox.items;
+  reading = p.progress.fields.reading;
+  closed = p.progress.fields.closed;
+  claims = p.progress.fields.claims;
+  fault = p.progress.fault;
   room = p.room;
 }
 
@@ -97,25 +97,25 @@ raised_to (Some p) r = later_of p r
 
 -- there is memory for a turn at this reading, with that many results, messages and claims
 pub record IsRoomy (p : Inside) (r : Room) : Type 0 where
-  pub fields : HasRoom (platform_graph p) p.fields p.lists (raised_to p.fields.reading r.reading) r.done r.taken r.most
-  pub turns : 0 < p.history.room.turns
-  pub posted : r.done ≤ p.history.room.posted
-  pub rows : count_due (platform_graph p) (raised_to p.fields.reading r.reading) p.fields ≤ p.history.room.rows
-  pub taken : r.taken ≤ p.history.room.taken
-  pub claimed : r.most ≤ p.history.room.claimed
-  pub sent : length p.fields.outbox.items + r.done * length (platform_graph p).links + length (platform_graph p).links ≤ p.history.room.sent
+  pub fields : HasRoom (platform_graph p) p.progress.fields p.progress.lists (raised_to p.progress.fields.reading r.reading) r.done r.taken r.most
+  pub turns : 0 < p.progress.history.room.turns
+  pub posted : r.done ≤ p.progress.history.room.posted
+  pub rows : count_due (platform_graph p) (raised_to p.progress.fields.reading r.reading) p.progress.fields ≤ p.progress.history.room.rows
+  pub taken : r.taken ≤ p.progress.history.room.taken
+  pub claimed : r.most ≤ p.progress.history.room.claimed
+  pub sent : length p.progress.fields.outbox.items + r.done * length (platform_graph p).links + length (platform_graph p).links ≤ p.progress.history.room.sent
 
 -- the invariant of a platform: its recorded turns follow one another from its opening, and lead to its state
 pub record IsPlatform (p : Inside) : Type 0 where
   pub admitted : IsAdmitted (arc_value p.plan)
-  pub sound : IsSound (platform_graph p) p.fields
-  pub sensors : AreSensors (platform_graph p) p.fields.sensors.items
-  pub fit : FitRows (platform_graph p) (rows_at_sensors p.fields.sensors.items)
+  pub sound : IsSound (platform_graph p) p.progress.fields
+  pub sensors : AreSensors (platform_graph p) p.progress.fields.sensors.items
+  pub fit : FitRows (platform_graph p) (rows_at_sensors p.progress.fields.sensors.items)
   pub closing : IsClosing (platform_graph p) p.number p.closing
-  pub claims : p.fields.claims ≤ (platform_graph p).claims
-  pub ran : Ran (platform_graph p) (level_of (arc_value p.plan).ranks) p.number (rows_at_sensors p.fields.sensors.items) p.history.turns (state_of p.fields (messages_of p.history.turns)) p.fault
-  pub empty : AreEmpty p.lists
-  pub sent : length p.fields.outbox.items ≤ p.history.room.sent
+  pub claims : p.progress.fields.claims ≤ (platform_graph p).claims
+  pub ran : Ran (platform_graph p) (level_of (arc_value p.plan).ranks) p.number (rows_at_sensors p.progress.fields.sensors.items) p.progress.history.turns (state_of p.progress.fields (messages_of p.progress.history.turns)) p.progress.fault
+  pub empty : AreEmpty p.progress.lists
+  pub sent : length p.progress.fields.outbox.items ≤ p.progress.history.room.sent
   pub room : MatchOption p.room (Unit {0}) (IsRoomy p)
-  pub next : MatchOption p.next (Unit {0}) (IsNextReading (platform_graph p) p.number (state_of p.fields (messages_of p.history.turns)))
-  pub next_row : NoneSeenBefore p.next_row (left_in p.fields.sensors.items)
+  pub next : MatchOption p.next (Unit {0}) (IsNextReading (platform_graph p) p.number (state_of p.progress.fields (messages_of p.progress.history.turns)))
+  pub next_row : NoneSeenBefore p.progress.next_row (left_in p.progress.fields.sensors.items)

@@ -13,8 +13,8 @@ use Rattle.pt_turn.specs.Fields.State.{busy_in, left_in, state_of}
 use Rattle.pt_turn.specs.Posts.Posted.{ArePlaces, ArePosted, ClaimsFit, picked}
 use Rattle.pt_turn.specs.Posts.Room.{leaving_open}
 use Rattle.pt_turn.specs.Takes.Taken.{Basis}
-use Rattle.pt_turn.specs.declared.claim_step.Ending.{Ending}
-use Rattle.pt_turn.specs.declared.claim_step.Ending.TheVariants.{On, Late, Long}
+use Rattle.pt_turn.specs.declared.claim_step.TurnEnd.{TurnEnd}
+use Rattle.pt_turn.specs.declared.claim_step.TurnEnd.TheVariants.{On, Late, Long}
 use Rattle.pt_turn.specs.declared.steps.Lists.{Lists}
 use Rattle.pt_turn.specs.Claiming.{IsIdle}
 
@@ -57,7 +57,7 @@ pub record FitIn (dones : List Done) (messages : List OnLink) (most : ℕ) (g : 
   pub claimed : length lists.claimed.items ≤ most
 
 -- if a turn ends as Long, the fields after it show why: all claims were made, and a unit is safe
-abbrev pub ShowsEnd : Graph → ℕ → Fields → Ending → Type 0
+abbrev pub ShowsEnd : Graph → ℕ → Fields → TurnEnd → Type 0
 ShowsEnd g r new On = Unit {0}
 ShowsEnd g r new Late = Unit {0}
 ShowsEnd g r new Long = (g.claims ≤ new.claims) × (IsIdle g new r → ⊥)
@@ -67,7 +67,7 @@ abbrev pub turn_of : ℕ → List Done → Lists → Turn
 turn_of r dones lists = record { first = r; last = r; count = 1; posted = picked dones lists.posted.items; rows = lists.rows.items; taken = lists.taken.items; claimed = lists.claimed.items; sent = [] }
 
 -- whether the last message taken was late
-abbrev pub took_late : Ending → Bool
+abbrev pub took_late : TurnEnd → Bool
 took_late On = false
 took_late Late = true
 took_late Long = false
@@ -79,14 +79,14 @@ pub record IsFront (messages taken : List OnLink) (late : Bool) : Type 0 where
   pub all : late ≡ false → rest ≡ []
 
 -- a turn is a last one, unless it ends as On
-abbrev pub EndsAsLast : Graph → Ending → (IsLast : Type 0) → Type 0
+abbrev pub EndsAsLast : Graph → TurnEnd → (IsLast : Type 0) → Type 0
 EndsAsLast g On last = last → ⊥
 EndsAsLast g Late last = last
 EndsAsLast g Long last = last
 
 -- a turn from the old fields to the new ones: it posts those of the results that are of open claims, takes the messages or
 -- the first of them, and claims the greedy list or its first tasks
-pub record IsMade (g : Graph) (w : Basis) (r most : ℕ) (dones : List Done) (messages : List OnLink) (old new : Fields) (lists : Lists) (ending : Ending) : Type 0 where
+pub record IsMade (g : Graph) (w : Basis) (r most : ℕ) (dones : List Done) (messages : List OnLink) (old new : Fields) (lists : Lists) (ending : TurnEnd) : Type 0 where
   pub turn : IsTurn g w.level w.platform (state_of old w.taken) (turn_of r dones lists) (took_late ending) (state_of new (w.taken ++ lists.taken.items))
   pub posted : ArePosted g (busy_in old.open_claims.items) dones (picked dones lists.posted.items)
   pub taken : IsFront messages lists.taken.items (took_late ending)

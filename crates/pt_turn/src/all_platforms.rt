@@ -23,8 +23,10 @@ pub fn open_all(
     entries: Vec<SensorRows>,
 ) -> Result<Vec<Platform>, Memory>
     requires places { StandInPlace (arc_value plan.now).graph entries.items }
-    requires fit { FitRows (arc_value plan.now).graph (of_run (arc_value plan.now).graph (rows_for entries.items)) }
-    ensures { IfOk result (λ all. AreReady (arc_value plan.now) (of_run (arc_value plan.now).graph (rows_for entries.items)) all.items) }
+    requires fit { FitRows (arc_value plan.now).graph
+        (of_run (arc_value plan.now).graph (rows_for entries.items)) }
+    ensures { IfOk result (λ all. AreReady (arc_value plan.now)
+        (of_run (arc_value plan.now).graph (rows_for entries.items)) all.items) }
 {
     let graph = plan.graph();
     let mut platforms = Vec::new(alloc);

@@ -18,11 +18,11 @@ impl Platform {
         ensures why { IfErr result (ShowsRefused self.old sensor row) }
     {
         let place = self.place_for(sensor, row)?;
-        let Ok(()) = append(alloc, &mut self.fields.sensors[place], row) else {
+        let Ok(()) = append(alloc, &mut self.progress.fields.sensors[place], row) else {
             return Err(Unfit::Memory);
         };
         self.next = None;
-        self.next_row = lesser(self.next_row, row.seen);
+        self.progress.next_row = lesser(self.progress.next_row, row.seen);
         self.room.clear();
         Ok(())
     }
@@ -36,11 +36,11 @@ impl Platform {
         if graph.platform_of(sensor) != self.number {
             return Err(Unfit::NoSensor);
         }
-        let Some(place) = place_of(self.fields.sensors.as_slice(), sensor) else {
+        let Some(place) = place_of(self.progress.fields.sensors.as_slice(), sensor) else {
             return Err(Unfit::NoSensor);
         };
-        let sensor = &self.fields.sensors[place];
-        match test(graph, sensor, self.fields.reading, row) {
+        let sensor = &self.progress.fields.sensors[place];
+        match test(graph, sensor, self.progress.fields.reading, row) {
             Ok(()) => Ok(place),
             Err(why) => Err(why),
         }

@@ -13,7 +13,7 @@ use pt_types::Task;
 
 /// Whether other turns may follow a turn, and if not, why.
 #[derive(Clone, Copy, Debug, PartialEq, Eq)]
-pub enum Ending {
+pub enum TurnEnd {
     /// Other turns may follow.
     On,
     /// The last message taken was late.
@@ -30,33 +30,34 @@ pub fn claim_unless(
     reading: Reading,
     most: usize,
     tasks: &mut Vec<Task>,
-) -> Ending
+) -> TurnEnd
     requires sound { IsSound plan.now.graph fields.old }
     requires claims { fields.old.claims ≤ plan.now.graph.claims }
     requires room { most ≤ fields.old.open_claims.spare }
     requires tasks { vec_len tasks.old + most ≤ vec_capacity tasks.old }
-    ensures claimed { HasClaimed plan.now.graph reading most fields.old fields.new tasks.old.items tasks.new.items late result }
+    ensures claimed { HasClaimed plan.now.graph reading most fields.old fields.new tasks.old.items
+        tasks.new.items late result }
     ensures sound { IsSound plan.now.graph fields.new }
     ensures others { OthersStay fields.old fields.new }
     ensures tasks { vec_capacity tasks.old ≤ vec_capacity tasks.new }
 {
     if late {
-        return Ending::Late;
+        return TurnEnd::Late;
     }
     if fields.claims >= plan.graph().claims {
         return full(fields, plan, reading);
     }
     claims(fields, plan, reading, most, tasks);
-    Ending::On
+    TurnEnd::On
 }
 
 /// How a turn ends if all claims were made before it.
-fn full(fields: &Fields, plan: &Plan, reading: Reading) -> Ending
+fn full(fields: &Fields, plan: &Plan, reading: Reading) -> TurnEnd
     requires sound { IsSound plan.now.graph fields.now }
     ensures { EndsFull plan.now.graph fields.now reading result }
 {
     match next_safe(fields, plan, reading) {
-        None => Ending::On,
-        Some(_) => Ending::Long,
+        None => TurnEnd::On,
+        Some(_) => TurnEnd::Long,
     }
 }

@@ -55,14 +55,15 @@ impl Platform {
     /// Whether it is finished: closed, all messages sent, and `End` taken on each incoming link. Only a closed platform
     /// with all messages sent needs a search of the messages taken.
     pub fn finished(&self) -> bool
-        ensures { (result ≡ true) ↔ IsFinished self.now.plan.graph self.now.number (state_at self.now) }
+        ensures { (result ≡ true) ↔ IsFinished self.now.plan.graph self.now.number
+            (state_at self.now) }
     {
-        if !self.fields.closed {
+        if !self.progress.fields.closed {
             return false;
         }
-        if !self.fields.outbox.is_empty() {
+        if !self.progress.fields.outbox.is_empty() {
             return false;
         }
-        have_ended(self.plan.graph(), self.number, &self.history)
+        have_ended(self.plan.graph(), self.number, &self.progress.history)
     }
 }

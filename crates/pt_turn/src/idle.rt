@@ -11,11 +11,11 @@ use crate::claim::next_reading;
 use crate::kept_turn::raised_to;
 use crate::memory::keep_room;
 use crate::platform::Platform;
-use pt_history::{History, Room};
+use pt_history::{History, HistoryRoom};
 use pt_tags::{Memory, Reading};
 
 /// Room for one turn in which nothing happens.
-const ONE_TURN: Room = Room {
+const ONE_TURN: HistoryRoom = HistoryRoom {
     turns: 1,
     posted: 0,
     rows: 0,
@@ -27,7 +27,8 @@ const ONE_TURN: Room = Room {
 impl Platform {
     /// The next reading, in microseconds. It is cached until something changes.
     fn find_next(&mut self) -> u64
-        ensures next { IsNextReading self.old.plan.graph self.old.number (state_at self.old) result }
+        ensures next { IsNextReading self.old.plan.graph self.old.number
+            (state_at self.old) result }
         ensures same { self.new ≡ self.old }
     {
         if let Some(next) = self.next {
@@ -39,10 +40,11 @@ impl Platform {
     /// The next reading, found anew in microseconds. Not inlined, so that the caller stays short.
     #[inline(never)]
     fn find_anew(&mut self) -> u64
-        ensures next { IsNextReading self.old.plan.graph self.old.number (state_at self.old) result }
+        ensures next { IsNextReading self.old.plan.graph self.old.number
+            (state_at self.old) result }
         ensures same { self.new ≡ self.old }
     {
-        let next = next_reading(&self.fields, &self.plan, self.number, self.closing);
+        let next = next_reading(&self.progress.fields, &self.plan, self.number, self.closing);
         self.next = Some(next);
         next
     }
@@ -53,21 +55,22 @@ impl Platform {
     #[inline(always)]
     pub fn rest(&mut self, reading: Reading) -> Result<bool, Memory>
         requires no_fault { self.old.fault ≡ None }
-        ensures rested { IfOk result (λ rested. rested ≡ true → HasRested self.old self.new reading) }
+        ensures rested { IfOk result (λ rested. rested ≡ true →
+            HasRested self.old self.new reading) }
         ensures awake { IfOk result (λ rested. rested ≡ false → self.new ≡ self.old) }
         ensures why { IfOk result (λ rested. rested ≡ false → IsAwake self.old reading) }
         ensures refused { OnErr result (self.new ≡ self.old) }
     {
-        if !self.fields.outbox.is_empty() {
+        if !self.progress.fields.outbox.is_empty() {
             return Ok(false);
         }
         let next = self.find_next();
-        let reading = raised_to(self.fields.reading, reading);
+        let reading = raised_to(self.progress.fields.reading, reading);
         if next <= reading {
             return Ok(false);
         }
-        keep_quiet(&mut self.history, reading)?;
-        self.fields.reading = Some(reading);
+        keep_quiet(&mut self.progress.history, reading)?;
+        self.progress.fields.reading = Some(reading);
         self.room.clear();
         Ok(true)
     }

@@ -41,7 +41,8 @@ pub fn keep(
     requires taken { length lists.old.taken.items ≤ history.old.room.taken }
     requires claimed { length lists.old.claimed.items ≤ history.old.room.claimed }
     requires tasks { length lists.old.claimed.items ≤ tasks.old.spare }
-    ensures turns { history.new.turns ≡ kept_with history.old.turns (turn_of reading dones.now lists.old) }
+    ensures turns { history.new.turns
+        ≡ kept_with history.old.turns (turn_of reading dones.now lists.old) }
     ensures sent { history.new.room.sent ≡ history.old.room.sent }
     ensures tasks { tasks.new.tasks ≡ tasks.old.tasks ++ lists.old.claimed.items }
     ensures empty { AreEmpty lists.new }
@@ -59,7 +60,8 @@ fn keep_posted(history: &mut History, dones: &[Done], posted: &mut Vec<usize>)
     requires room { length posted.old.items ≤ history.old.room.posted }
     requires places { ArePlaces dones.now posted.old.items }
     requires begun { 0 < length history.old.turns }
-    ensures turns { history.new.turns ≡ on_last (posting (picked dones.now posted.old.items)) history.old.turns }
+    ensures turns { history.new.turns
+        ≡ on_last (posting (picked dones.now posted.old.items)) history.old.turns }
     ensures rows { history.new.room.rows ≡ history.old.room.rows }
     ensures taken { history.new.room.taken ≡ history.old.room.taken }
     ensures claimed { history.new.room.claimed ≡ history.old.room.claimed }

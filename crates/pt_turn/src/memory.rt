@@ -7,7 +7,7 @@ ghost use Rattle.pt_history.specs.Turns.{larger};
 
 use crate::Lists;
 use crate::state::Fields;
-use pt_history::{History, Room};
+use pt_history::{History, HistoryRoom};
 use pt_tags::Memory;
 
 /// How much a turn may need.
@@ -38,7 +38,8 @@ pub fn make_room(
     ensures fields { AreWider fields.old fields.new }
     ensures lists { ListsAreWider lists.old lists.new }
     ensures history { HistoryIsWider history.old history.new }
-    ensures met { OnOk result (FieldsMeet needs fields.new × ListsMeet needs lists.new × HistoryMeets needs history.new.room) }
+    ensures met { OnOk result (FieldsMeet needs fields.new × ListsMeet needs lists.new
+        × HistoryMeets needs history.new.room) }
 {
     widen_fields(fields, needs)?;
     widen_lists(lists, needs)?;
@@ -82,10 +83,10 @@ fn widen_history(history: &mut History, needs: Needs) -> Result<(), Memory>
 
 /// The room of a history that a turn needs. It is made anew where it is used, since a comparison needs no memory for it.
 #[inline(always)]
-fn room_of(needs: Needs) -> Room
+fn room_of(needs: Needs) -> HistoryRoom
     ensures { HistoryMeets needs result }
 {
-    Room {
+    HistoryRoom {
         turns: 1,
         posted: needs.posted,
         rows: needs.rows,
@@ -135,11 +136,11 @@ fn more(asked: usize) -> usize
 }
 
 /// Room for the request and for later turns.
-fn ahead(asked: Room) -> Room
+fn ahead(asked: HistoryRoom) -> HistoryRoom
     ensures enough { larger result asked ≡ result }
     ensures is { result ≡ ahead_of asked }
 {
-    Room {
+    HistoryRoom {
         turns: more(asked.turns),
         posted: more(asked.posted),
         rows: more(asked.rows),
@@ -152,11 +153,13 @@ fn ahead(asked: Room) -> Room
 /// Makes sure that a history has at least this much room. If it has less, room for later turns is reserved too, so that
 /// most turns reserve nothing; if memory does not suffice for that, only this much.
 #[inline(always)]
-pub fn keep_room(history: &mut History, room: Room) -> Result<(), Memory>
+pub fn keep_room(history: &mut History, room: HistoryRoom) -> Result<(), Memory>
     ensures wider { HistoryIsWider history.old history.new }
     ensures met { OnOk result (larger history.new.room room ≡ history.new.room) }
-    ensures there { larger history.old.room room ≡ history.old.room → IsOk result × (history.new ≡ history.old) }
-    ensures room { OnOk result ((history.new.room ≡ larger history.old.room room) ⊎ (history.new.room ≡ larger history.old.room (ahead_of room))) }
+    ensures there { larger history.old.room room ≡ history.old.room → IsOk result
+        × (history.new ≡ history.old) }
+    ensures room { OnOk result ((history.new.room ≡ larger history.old.room room)
+        ⊎ (history.new.room ≡ larger history.old.room (ahead_of room))) }
     ensures refused { OnErr result (history.new ≡ history.old) }
 {
     if history.has_room(room) {
@@ -168,10 +171,11 @@ pub fn keep_room(history: &mut History, room: Room) -> Result<(), Memory>
 /// Reserves this much room in a history, and room for later turns; if memory does not suffice for that, only this much. Not
 /// inlined, since most turns have room.
 #[inline(never)]
-fn widen_ahead(history: &mut History, room: Room) -> Result<(), Memory>
+fn widen_ahead(history: &mut History, room: HistoryRoom) -> Result<(), Memory>
     ensures wider { HistoryIsWider history.old history.new }
     ensures met { OnOk result (larger history.new.room room ≡ history.new.room) }
-    ensures room { OnOk result ((history.new.room ≡ larger history.old.room room) ⊎ (history.new.room ≡ larger history.old.room (ahead_of room))) }
+    ensures room { OnOk result ((history.new.room ≡ larger history.old.room room)
+        ⊎ (history.new.room ≡ larger history.old.room (ahead_of room))) }
     ensures refused { OnErr result (history.new ≡ history.old) }
 {
     if history.reserve(ahead(room)).is_ok() {

@@ -26,10 +26,14 @@ pub fn open_fields(
 ) -> Result<Fields, Memory>
     requires { AreHanded plan.now.graph platform rows.items }
     ensures admitted { IsAdmitted plan.now }
-    ensures opened { IfOk result (λ fields. state_of fields [] ≡ opened plan.now.graph platform (rows_at_sensors fields.sensors.items)) }
-    ensures rows { IfOk result (λ fields. rows_at_sensors fields.sensors.items ≡ rows_handed rows.items) }
+    ensures opened { IfOk result (λ fields.
+        state_of fields [] ≡ opened plan.now.graph platform
+        (rows_at_sensors fields.sensors.items)) }
+    ensures rows { IfOk result (λ fields.
+        rows_at_sensors fields.sensors.items ≡ rows_handed rows.items) }
     ensures entries { IfOk result (λ fields. fields.sensors.items ≡ map unentered rows.items) }
-    ensures fit { IfOk result (λ fields. FitRows plan.now.graph (rows_at_sensors fields.sensors.items)) }
+    ensures fit { IfOk result (λ fields.
+        FitRows plan.now.graph (rows_at_sensors fields.sensors.items)) }
     ensures sound { IfOk result (λ fields. IsSound plan.now.graph fields) }
     ensures sensors { IfOk result (λ fields. AreSensors plan.now.graph fields.sensors.items) }
     ensures open_claims { IfOk result (λ fields. fields.open_claims.items ≡ []) }

@@ -9,6 +9,7 @@ ghost use Rattle.pt_turn.specs.Platforms.{rows_at, state_at};
 use crate::claim::next_reading;
 use crate::close::closing_reading;
 use crate::platform::Platform;
+use crate::progress::Progress;
 use crate::reserved::Reserved;
 use crate::{Lists, open_fields};
 use pt_history::History;
@@ -33,7 +34,8 @@ impl Platform {
         ensures rows { IfOk result (λ opened. rows_at opened ≡ rows_handed rows.items) }
         ensures sensors { IfOk result (λ opened. opened.sensors ≡ map unentered rows.items) }
         ensures turns { IfOk result (λ opened. opened.turns ≡ []) }
-        ensures new { IfOk result (λ opened. (opened.fault ≡ None) × (opened.room ≡ None) × (opened.open_claims ≡ []) × (opened.outbox ≡ []) × (opened.reading ≡ None)) }
+        ensures new { IfOk result (λ opened. (opened.fault ≡ None) × (opened.room ≡ None)
+            × (opened.open_claims ≡ []) × (opened.outbox ≡ []) × (opened.reading ≡ None)) }
     {
         let fields = open_fields(alloc, &plan, platform, rows)?;
         let closing = closing_reading(&plan, platform);
@@ -41,27 +43,31 @@ impl Platform {
             plan,
             number: platform,
             closing,
-            fields,
-            history: History::new(alloc),
-            lists: Lists {
-                posted: Vec::new(alloc),
-                rows: Vec::new(alloc),
-                taken: Vec::new(alloc),
-                claimed: Vec::new(alloc),
+            progress: Progress {
+                fields,
+                history: History::new(alloc),
+                lists: Lists {
+                    posted: Vec::new(alloc),
+                    rows: Vec::new(alloc),
+                    taken: Vec::new(alloc),
+                    claimed: Vec::new(alloc),
+                },
+                fault: None,
+                next_row: 0,
             },
-            fault: None,
             room: Reserved::none(),
             next: None,
-            next_row: 0,
         })
     }
 
     /// The least reading, in microseconds, at which something can happen: a row is seen, a unit reaches its paced reading,
     /// or the platform can close. `None` if it is closed.
     pub fn next_reading(&self) -> Option<u64>
-        ensures { MatchOption result (self.now.closed ≡ true) (λ next. (self.now.closed ≡ false) × IsNextReading self.now.plan.graph self.now.number (state_at self.now) next) }
+        ensures { MatchOption result (self.now.closed ≡ true)
+            (λ next. (self.now.closed ≡ false)
+            × IsNextReading self.now.plan.graph self.now.number (state_at self.now) next) }
     {
-        if self.fields.closed {
+        if self.progress.fields.closed {
             return None;
         }
         match self.next {
@@ -75,6 +81,6 @@ impl Platform {
     fn search_next(&self) -> u64
         ensures { IsNextReading self.now.plan.graph self.now.number (state_at self.now) result }
     {
-        next_reading(&self.fields, &self.plan, self.number, self.closing)
+        next_reading(&self.progress.fields, &self.plan, self.number, self.closing)
     }
 }

@@ -13,14 +13,14 @@ impl Platform {
     pub fn sent_all(&self) -> bool
         ensures { result ≡ (length self.now.outbox == 0) }
     {
-        self.fields.outbox.is_empty()
+        self.progress.fields.outbox.is_empty()
     }
 
     /// The next message to send on a link; `None` if there is none.
     pub fn outgoing(&self, link: u32) -> Option<Message>
         ensures { result ≡ slice_get (on_link link self.now.outbox) 0 }
     {
-        self.fields.outbox.first(link)
+        self.progress.fields.outbox.first(link)
     }
 
     /// Moves the next message of a link from the outbox to the messages sent since the last turn, of which there are at most
@@ -31,9 +31,11 @@ impl Platform {
         requires few { length (on_link link (last_sent self.old.turns)) < 64 }
         ensures { FirstHasGone self.old self.new link }
     {
-        let Some(message) = self.fields.outbox.pop(link) else {
+        let Some(message) = self.progress.fields.outbox.pop(link) else {
             unreachable!();
         };
-        self.history.send([OnLink { link, message }].as_slice());
+        self.progress
+            .history
+            .send([OnLink { link, message }].as_slice());
     }
 }

@@ -28,7 +28,8 @@ pub struct Room {
 /// link for each result and for closing. `None` if 64 bits do not hold a number.
 #[inline(always)]
 fn needs_of(plan: &Plan, fields: &Fields, room: Room, rows: usize) -> Option<Needs>
-    ensures { (r : ℕ) → count_due plan.now.graph r fields.now ≤ rows → IfSome result (AreEnough plan.now.graph fields.now r room) }
+    ensures { (r : ℕ) → count_due plan.now.graph r fields.now ≤ rows →
+        IfSome result (AreEnough plan.now.graph fields.now r room) }
 {
     let graph = plan.graph();
     let links = graph.links.as_slice().len();
@@ -52,7 +53,7 @@ impl Platform {
         ensures room { OnOk result (self.new ≡ record self.old { room = Some room }) }
         ensures refused { OnErr result (self.new ≡ self.old) }
     {
-        if raised_to(self.fields.reading, room.reading) < self.next_row {
+        if raised_to(self.progress.fields.reading, room.reading) < self.progress.next_row {
             return self.room_with(room, 0);
         }
         self.room_with_rows(room.reading, room.done, room.taken, room.most)
@@ -68,11 +69,19 @@ impl Platform {
         taken: usize,
         most: usize,
     ) -> Result<(), Memory>
-        ensures room { OnOk result (self.new ≡ record self.old { room = Some (record { reading = reading; done = done; taken = taken; most = most }) }) }
+        ensures room { OnOk result (self.new
+            ≡ record self.old {
+              room = Some
+                  (record { reading = reading; done = done; taken = taken; most = most });
+            }) }
         ensures refused { OnErr result (self.new ≡ self.old) }
     {
-        let raised = raised_to(self.fields.reading, reading);
-        let Some(rows) = count_due(self.plan.graph(), self.fields.sensors.as_slice(), raised) else {
+        let raised = raised_to(self.progress.fields.reading, reading);
+        let Some(rows) = count_due(
+            self.plan.graph(),
+            self.progress.fields.sensors.as_slice(),
+            raised,
+        ) else {
             return Err(Memory);
         };
         let room = Room {
@@ -87,14 +96,20 @@ impl Platform {
     /// The same where at most this many rows enter.
     #[inline(always)]
     fn room_with(&mut self, room: Room, rows: usize) -> Result<(), Memory>
-        requires rows { length (all_due self.old.plan.graph (raised_to self.old.reading room.reading) (left_in self.old.sensors)) ≤ rows }
+        requires rows { length (all_due self.old.plan.graph
+            (raised_to self.old.reading room.reading) (left_in self.old.sensors)) ≤ rows }
         ensures room { OnOk result (self.new ≡ record self.old { room = Some room }) }
         ensures refused { OnErr result (self.new ≡ self.old) }
     {
-        let Some(needs) = needs_of(&self.plan, &self.fields, room, rows) else {
+        let Some(needs) = needs_of(&self.plan, &self.progress.fields, room, rows) else {
             return Err(Memory);
         };
-        make_room(&mut self.fields, &mut self.lists, &mut self.history, needs)?;
+        make_room(
+            &mut self.progress.fields,
+            &mut self.progress.lists,
+            &mut self.progress.history,
+            needs,
+        )?;
         self.room.set(room);
         Ok(())
     }

@@ -17,7 +17,10 @@ pub fn parted(
     number: u32,
     entries: Vec<SensorRows>,
 ) -> Result<(Vec<SensorRows>, Vec<SensorRows>), AllocError>
-    ensures { IfOk result (λ both. (both.0.items ≡ filter (is_entry_on graph.now number) entries.items) × (both.1.items ≡ filter (λ (s : Entry). not (is_entry_on graph.now number s)) entries.items)) }
+    ensures { IfOk result (λ both. (both.0.items
+        ≡ filter (is_entry_on graph.now number) entries.items)
+        × (both.1.items ≡ filter (λ (s : Entry). not
+        (is_entry_on graph.now number s)) entries.items)) }
 {
     let mut own = Vec::new(alloc);
     let mut others = Vec::new(alloc);

@@ -28,7 +28,8 @@ fn begin(queue: &mut Queue, graph: &Graph, actor: u32, kind: &Kind)
     requires spare { 0 < queue.old.spare }
     requires actor { actor < length queue.old.groups }
     requires absent { (t : Tag) → waiting_in queue.old.events actor 0 t ≡ None }
-    ensures waits { waiting_in queue.new.events ≡ added (waiting_in queue.old.events) (starting_event graph.now actor kind.now) }
+    ensures waits { waiting_in queue.new.events
+        ≡ added (waiting_in queue.old.events) (starting_event graph.now actor kind.now) }
     ensures spare { queue.old.spare ≤ queue.new.spare + 1 }
     ensures groups { queue.new.groups ≡ queue.old.groups }
 {

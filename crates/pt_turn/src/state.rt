@@ -3,7 +3,7 @@
 //! Each part of a turn is a function over `Fields`, and its contract says how `state_of` changes. The messages that a
 //! platform took from its links are not a field, since its history has them; so `state_of` takes them as an argument.
 //!
-//! Read first: `Fields`, then `specs/State.antt`.
+//! Read first: `Fields`, then `specs/Fields/State.antt`.
 
 mod fields;
 mod open_claims;

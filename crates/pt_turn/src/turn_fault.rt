@@ -1,10 +1,10 @@
 //! The fault of a turn.
 
 ghost use Rattle.std.specs.Prelude.{◌≡◌, ◌+◌, ◌<◌, Some};
-ghost use Rattle.pt_turn.specs.declared.claim_step.Ending.TheVariants.{Late};
+ghost use Rattle.pt_turn.specs.declared.claim_step.TurnEnd.TheVariants.{Late};
 ghost use Rattle.pt_turn.specs.Faults.{IsFaultOf, NamesLate, SomeIsLate};
 
-use crate::Ending;
+use crate::TurnEnd;
 use crate::fault::TurnFault;
 use pt_offsets::Plan;
 use pt_tags::Message;
@@ -13,7 +13,7 @@ use pt_types::OnLink;
 /// The fault of a turn with this ending, given the last reading before it (in microseconds) and the messages that it took.
 pub fn fault_of(
     plan: &Plan,
-    ending: Ending,
+    ending: TurnEnd,
     last: Option<u64>,
     taken: &[OnLink],
 ) -> Option<TurnFault>
@@ -21,9 +21,9 @@ pub fn fault_of(
     ensures { IsFaultOf plan.now.graph last taken.now ending result }
 {
     match ending {
-        Ending::On => None,
-        Ending::Long => Some(TurnFault::Long),
-        Ending::Late => Some(late_fault(plan, last, taken)),
+        TurnEnd::On => None,
+        TurnEnd::Long => Some(TurnFault::Long),
+        TurnEnd::Late => Some(late_fault(plan, last, taken)),
     }
 }
 

@@ -9,6 +9,7 @@ ghost use Rattle.pt_turn.specs.Turned.{IsEnough, IsTurned, MayCome, StaysThere};
 use crate::kept_turn::raised_to;
 use crate::made_turn::make;
 use crate::platform::Platform;
+use crate::progress::Setup;
 use pt_actors::{Done, Tasks};
 use pt_tags::Reading;
 use pt_types::OnLink;
@@ -29,32 +30,37 @@ impl Platform {
         most: usize,
         tasks: &mut Tasks,
     )
-        requires room { MatchOption self.old.room ⊥ (IsEnough reading (length done.now) (length taken.now) most) }
+        requires room { MatchOption self.old.room ⊥
+            (IsEnough reading (length done.now) (length taken.now) most) }
         requires most { (1 ≤ most) × (most ≤ 64) }
         requires tasks { most ≤ tasks.old.spare }
         requires done { AreDone self.old.plan.graph done.now }
-        requires taken { MayCome self.old.plan.graph (level_at self.old) self.old.number (state_at self.old) taken.now }
-        ensures turned { self.old.fault ≡ None → (made : IsTurned self.old self.new reading most done.now taken.now) × (tasks.new.tasks ≡ tasks.old.tasks ++ made.turn.claimed) × StaysThere self.old self.new }
-        ensures stopped { (fault : TurnFault) → self.old.fault ≡ Some fault → (self.new ≡ self.old) × (tasks.new ≡ tasks.old) }
+        requires taken { MayCome self.old.plan.graph (level_at self.old) self.old.number
+            (state_at self.old) taken.now }
+        ensures turned { self.old.fault ≡ None →
+            (made : IsTurned self.old self.new reading most done.now taken.now)
+            × (tasks.new.tasks ≡ tasks.old.tasks ++ made.turn.claimed)
+            × StaysThere self.old self.new }
+        ensures stopped { (fault : TurnFault) → self.old.fault ≡ Some fault → (self.new ≡ self.old)
+            × (tasks.new ≡ tasks.old) }
     {
-        if let Some(_) = self.fault {
+        if let Some(_) = self.progress.fault {
             return;
         }
-        let reading = raised_to(self.fields.reading, reading);
+        let reading = raised_to(self.progress.fields.reading, reading);
+        let setup = Setup {
+            plan: &self.plan,
+            number: self.number,
+            closing: self.closing,
+        };
         make(
-            &mut self.fields,
-            &self.plan,
-            self.number,
-            self.closing,
+            &mut self.progress,
+            &setup,
             reading,
             done,
             taken,
             most,
-            &mut self.lists,
-            &mut self.history,
             tasks,
-            &mut self.fault,
-            &mut self.next_row,
         );
         self.room.clear();
         self.next = None;

@@ -23,7 +23,8 @@ fn bound_of(graph: &Graph, actor: u32) -> Option<u64>
 
 /// The limit that a row is past: its time plus the bound, in microseconds; `None` if it is on time.
 fn past_limit(row: Row, bound: u64) -> Option<u64>
-    ensures { MatchOption result (row.seen ≤ row.time + bound) (λ limit. (limit ≡ row.time + bound) × (limit < row.seen)) }
+    ensures { MatchOption result (row.seen ≤ row.time + bound)
+        (λ limit. (limit ≡ row.time + bound) × (limit < row.seen)) }
 {
     let limit = row.time.checked_add(bound)?;
     if limit < row.seen { Some(limit) } else { None }

@@ -26,7 +26,8 @@ pub struct Ahead {
 /// The unit that was last found to hold up another one, if it has events, with its least tag.
 pub fn holder_of(fields: &Fields, plan: &Plan, unit: Unit) -> Option<Ahead>
     requires sound { IsSound plan.now.graph fields.now }
-    ensures { IfSome result (HasEventAhead plan.now.graph (waiting_in fields.now.queue.events) plan.now.least) }
+    ensures { IfSome result (HasEventAhead plan.now.graph
+        (waiting_in fields.now.queue.events) plan.now.least) }
 {
     let holder = fields.queue.last_holder(unit)?;
     let tag = fields.queue.least(holder)?;
@@ -43,8 +44,10 @@ pub fn holder_of(fields: &Fields, plan: &Plan, unit: Unit) -> Option<Ahead>
 pub fn is_behind(fields: &Fields, plan: &Plan, unit: Unit, tag: Tag, ahead: Option<Ahead>) -> bool
     requires sound { IsSound plan.now.graph fields.now }
     requires unit { IsUnit plan.now.graph unit }
-    requires ahead { IfSome ahead (HasEventAhead plan.now.graph (waiting_in fields.now.queue.events) plan.now.least) }
-    ensures { (busy : Unit → Option Task) → (r : ℕ) → result ≡ true → IsSafe plan.now.graph (waiting_in fields.now.queue.events) busy r unit tag → ⊥ }
+    requires ahead { IfSome ahead (HasEventAhead plan.now.graph
+        (waiting_in fields.now.queue.events) plan.now.least) }
+    ensures { (busy : Unit → Option Task) → (r : ℕ) → result ≡ true →
+        IsSafe plan.now.graph (waiting_in fields.now.queue.events) busy r unit tag → ⊥ }
 {
     let Some(other) = ahead else {
         return false;

@@ -32,10 +32,13 @@ fn is_asked(
 ) -> bool
     requires sound { IsSound plan.now.graph fields.now }
     requires unit { IsUnit plan.now.graph waiting.unit }
-    requires tag { IsLeastTag plan.now.graph (waiting_in fields.now.queue.events) waiting.unit (Some waiting.tag) }
-    requires ahead { IfSome ahead (HasEventAhead plan.now.graph (waiting_in fields.now.queue.events) plan.now.least) }
+    requires tag { IsLeastTag plan.now.graph (waiting_in fields.now.queue.events) waiting.unit
+        (Some waiting.tag) }
+    requires ahead { IfSome ahead (HasEventAhead plan.now.graph
+        (waiting_in fields.now.queue.events) plan.now.least) }
     ensures due { result ≡ true → IsDueAt plan.now.graph reading waiting.unit waiting.tag }
-    ensures waits { result ≡ false → (busy : Unit → Option Task) → (t : Time) → IsSafe plan.now.graph (waiting_in fields.now.queue.events) busy reading waiting.unit t → ⊥ }
+    ensures waits { result ≡ false → (busy : Unit → Option Task) → (t : Time) →
+        IsSafe plan.now.graph (waiting_in fields.now.queue.events) busy reading waiting.unit t → ⊥ }
 {
     let Waiting { unit, tag } = waiting;
     is_due(plan, reading, unit, tag) && !is_behind(fields, plan, unit, tag, ahead)
@@ -55,9 +58,14 @@ pub fn next_asked(
     from: usize,
 ) -> Option<Waiting>
     requires sound { IsSound plan.now.graph fields.now }
-    requires ahead { IfSome ahead (HasEventAhead plan.now.graph (waiting_in fields.now.queue.events) plan.now.least) }
-    ensures first { (busy : Unit → Option Task) → (cs : Sequence Pending) → AreFirst plan.now.graph (waiting_in fields.now.queue.events) busy reading (from / 8) (from % 8) cs → AreFirstUpTo plan.now.graph (waiting_in fields.now.queue.events) busy reading result cs }
-    ensures asked { IfSome result (IsAsked plan.now.graph (waiting_in fields.now.queue.events) reading from) }
+    requires ahead { IfSome ahead (HasEventAhead plan.now.graph
+        (waiting_in fields.now.queue.events) plan.now.least) }
+    ensures first { (busy : Unit → Option Task) → (cs : Sequence Pending) →
+        AreFirst plan.now.graph (waiting_in fields.now.queue.events) busy reading (from / 8)
+        (from % 8) cs → AreFirstUpTo plan.now.graph
+        (waiting_in fields.now.queue.events) busy reading result cs }
+    ensures asked { IfSome result (IsAsked plan.now.graph
+        (waiting_in fields.now.queue.events) reading from) }
 {
     let mut from = from;
     while let Some(waiting) = fields.queue.first_waiting(from) {

@@ -35,7 +35,7 @@ fn open_claim(unit: Unit, task: &Task) -> OpenClaim
 
 /// For the proof alone: a plan is admitted, so its graph's number of claims has a limit.
 #[inline(always)]
-fn recall_admitted(plan: &Plan)
+fn show_admitted(plan: &Plan)
     ensures { IsAdmitted plan.now }
 {
     let _ = plan.graph();
@@ -46,12 +46,15 @@ fn recall_admitted(plan: &Plan)
 pub fn claim(fields: &mut Fields, plan: &Plan, next: Waiting) -> Task
     requires sound { IsSound plan.now.graph fields.old }
     requires unit { IsUnit plan.now.graph next.unit }
-    requires event { HasEvent plan.now.graph (waiting_in fields.old.queue.events) next.unit next.tag }
+    requires event { HasEvent plan.now.graph
+        (waiting_in fields.old.queue.events) next.unit next.tag }
     requires free { busy_in fields.old.open_claims.items next.unit ≡ None }
     requires room { 0 < fields.old.open_claims.spare }
     requires claims { fields.old.claims < plan.now.graph.claims }
     ensures task { IsTaskOf plan.now.graph fields.old next.unit next.tag result }
-    ensures after { (taken : Sequence OnLink) → state_of fields.new taken ≡ after_claim plan.now.graph (state_of fields.old taken) next.unit result }
+    ensures after { (taken : Sequence OnLink) →
+        state_of fields.new taken ≡ after_claim plan.now.graph
+        (state_of fields.old taken) next.unit result }
     ensures sound { IsSound plan.now.graph fields.new }
     ensures others { OthersStay fields.old fields.new }
     ensures claims { fields.new.claims ≡ fields.old.claims + 1 }
@@ -65,7 +68,7 @@ pub fn claim(fields: &mut Fields, plan: &Plan, next: Waiting) -> Task
         state: state_at(fields.states.as_slice(), next.unit.actor),
     };
     fields.open_claims.add(open_claim(next.unit, &task));
-    recall_admitted(plan);
+    show_admitted(plan);
     fields.claims += 1;
     task
 }
@@ -88,7 +91,8 @@ pub fn claims(
     requires claims { fields.old.claims ≤ plan.now.graph.claims }
     requires room { most ≤ fields.old.open_claims.spare }
     requires tasks { vec_len tasks.old + most ≤ vec_capacity tasks.old }
-    ensures claimed { AreClaimed plan.now.graph reading most fields.old fields.new tasks.old.items tasks.new.items }
+    ensures claimed { AreClaimed plan.now.graph reading most fields.old fields.new tasks.old.items
+        tasks.new.items }
     ensures sound { IsSound plan.now.graph fields.new }
     ensures others { OthersStay fields.old fields.new }
     ensures tasks { vec_capacity tasks.old ≤ vec_capacity tasks.new }
@@ -117,8 +121,10 @@ fn claim_alone(
     requires claims { fields.old.claims ≤ plan.now.graph.claims }
     requires room { most ≤ fields.old.open_claims.spare }
     requires tasks { vec_len tasks.old + most ≤ vec_capacity tasks.old }
-    requires front { AreFront plan.now.graph (waiting_in fields.old.queue.events) (busy_in fields.old.open_claims.items) reading false (next ∷ []) }
-    ensures claimed { AreClaimed plan.now.graph reading most fields.old fields.new tasks.old.items tasks.new.items }
+    requires front { AreFront plan.now.graph (waiting_in fields.old.queue.events)
+        (busy_in fields.old.open_claims.items) reading false (next ∷ []) }
+    ensures claimed { AreClaimed plan.now.graph reading most fields.old fields.new tasks.old.items
+        tasks.new.items }
     ensures sound { IsSound plan.now.graph fields.new }
     ensures others { OthersStay fields.old fields.new }
     ensures tasks { vec_capacity tasks.old ≤ vec_capacity tasks.new }
@@ -143,8 +149,10 @@ fn claim_several(
     requires claims { fields.old.claims ≤ plan.now.graph.claims }
     requires room { most ≤ fields.old.open_claims.spare }
     requires tasks { vec_len tasks.old + most ≤ vec_capacity tasks.old }
-    requires known { IfSome known (AreBothSafe plan.now.graph (waiting_in fields.old.queue.events) (busy_in fields.old.open_claims.items) reading) }
-    ensures claimed { AreClaimed plan.now.graph reading most fields.old fields.new tasks.old.items tasks.new.items }
+    requires known { IfSome known (AreBothSafe plan.now.graph (waiting_in fields.old.queue.events)
+        (busy_in fields.old.open_claims.items) reading) }
+    ensures claimed { AreClaimed plan.now.graph reading most fields.old fields.new tasks.old.items
+        tasks.new.items }
     ensures sound { IsSound plan.now.graph fields.new }
     ensures others { OthersStay fields.old fields.new }
     ensures tasks { vec_capacity tasks.old ≤ vec_capacity tasks.new }

@@ -25,7 +25,8 @@ pub fn next_word(place: usize) -> usize
 #[inline(always)]
 fn is_early(fields: &Fields, plan: &Plan, reading: Reading, word: usize) -> bool
     requires sound { IsSound plan.now.graph fields.now }
-    ensures { result ≡ true → IsEarlyWord plan.now.graph (waiting_in fields.now.queue.events) reading word }
+    ensures { result ≡ true → IsEarlyWord plan.now.graph
+        (waiting_in fields.now.queue.events) reading word }
 {
     let earliest = Tag {
         time: fields.queue.not_before(word),
@@ -45,7 +46,8 @@ pub fn is_passed_over(
     place: usize,
 ) -> bool
     requires sound { IsSound plan.now.graph fields.now }
-    ensures { result ≡ true → IsEarlyWord plan.now.graph (waiting_in fields.now.queue.events) reading (place / 64) }
+    ensures { result ≡ true → IsEarlyWord plan.now.graph
+        (waiting_in fields.now.queue.events) reading (place / 64) }
 {
     from <= place - place % 64 && is_early(fields, plan, reading, place / 64)
 }

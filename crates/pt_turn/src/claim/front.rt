@@ -58,9 +58,12 @@ fn is_free_or_known(
     requires sound { IsSound plan.now.graph fields.now }
     requires unit { IsUnit plan.now.graph unit }
     requires tag { IsLeastTag plan.now.graph (waiting_in fields.now.queue.events) unit (Some tag) }
-    requires due { (x b : ℕ) (path : Sequence Edge) → Feeds plan.now.graph x b path unit → tag.time + b < reading + (sum_along path).time }
-    requires known { IfSome known (AreBothSafe plan.now.graph (waiting_in fields.now.queue.events) (busy_in fields.now.open_claims.items) reading) }
-    ensures { (result ≡ true) ↔ IsSafe plan.now.graph (waiting_in fields.now.queue.events) (busy_in fields.now.open_claims.items) reading unit tag }
+    requires due { (x b : ℕ) (path : Sequence Edge) → Feeds plan.now.graph x b path unit →
+        tag.time + b < reading + (sum_along path).time }
+    requires known { IfSome known (AreBothSafe plan.now.graph (waiting_in fields.now.queue.events)
+        (busy_in fields.now.open_claims.items) reading) }
+    ensures { (result ≡ true) ↔ IsSafe plan.now.graph (waiting_in fields.now.queue.events)
+        (busy_in fields.now.open_claims.items) reading unit tag }
 {
     if let Some(several) = known {
         if is_one_of(several, unit) {
@@ -85,13 +88,21 @@ fn add_unit(
 ) -> Option<Ahead>
     requires sound { IsSound plan.now.graph fields.now }
     requires unit { IsUnit plan.now.graph waiting.unit }
-    requires tag { IsLeastTag plan.now.graph (waiting_in fields.now.queue.events) waiting.unit (Some waiting.tag) }
+    requires tag { IsLeastTag plan.now.graph (waiting_in fields.now.queue.events) waiting.unit
+        (Some waiting.tag) }
     requires due { IsDueAt plan.now.graph reading waiting.unit waiting.tag }
-    requires ahead { IfSome ahead (HasEventAhead plan.now.graph (waiting_in fields.now.queue.events) plan.now.least) }
-    requires known { IfSome known (AreBothSafe plan.now.graph (waiting_in fields.now.queue.events) (busy_in fields.now.open_claims.items) reading) }
-    requires first { AreFirst plan.now.graph (waiting_in fields.now.queue.events) (busy_in fields.now.open_claims.items) reading waiting.unit.actor waiting.unit.group units.old.items }
-    ensures first { AreFirst plan.now.graph (waiting_in fields.now.queue.events) (busy_in fields.now.open_claims.items) reading waiting.unit.actor (waiting.unit.group + 1) units.new.items }
-    ensures ahead { IfSome result (HasEventAhead plan.now.graph (waiting_in fields.now.queue.events) plan.now.least) }
+    requires ahead { IfSome ahead (HasEventAhead plan.now.graph
+        (waiting_in fields.now.queue.events) plan.now.least) }
+    requires known { IfSome known (AreBothSafe plan.now.graph (waiting_in fields.now.queue.events)
+        (busy_in fields.now.open_claims.items) reading) }
+    requires first { AreFirst plan.now.graph (waiting_in fields.now.queue.events)
+        (busy_in fields.now.open_claims.items) reading waiting.unit.actor waiting.unit.group
+        units.old.items }
+    ensures first { AreFirst plan.now.graph (waiting_in fields.now.queue.events)
+        (busy_in fields.now.open_claims.items) reading waiting.unit.actor
+        (waiting.unit.group + 1) units.new.items }
+    ensures ahead { IfSome result (HasEventAhead plan.now.graph
+        (waiting_in fields.now.queue.events) plan.now.least) }
 {
     if is_past_all(units, waiting) {
         return ahead;
@@ -113,8 +124,11 @@ fn fill(
     units: &mut ArrayVec<Waiting, 64>,
 )
     requires sound { IsSound plan.now.graph fields.now }
-    requires known { IfSome known (AreBothSafe plan.now.graph (waiting_in fields.now.queue.events) (busy_in fields.now.open_claims.items) reading) }
-    ensures { AreFirst plan.now.graph (waiting_in fields.now.queue.events) (busy_in fields.now.open_claims.items) reading (length plan.now.graph.actors) 0 units.new.items }
+    requires known { IfSome known (AreBothSafe plan.now.graph (waiting_in fields.now.queue.events)
+        (busy_in fields.now.open_claims.items) reading) }
+    ensures { AreFirst plan.now.graph (waiting_in fields.now.queue.events)
+        (busy_in fields.now.open_claims.items) reading
+        (length plan.now.graph.actors) 0 units.new.items }
 {
     units.clear();
     let mut ahead = None;
@@ -135,10 +149,17 @@ fn alone_with(
 ) -> Result<Option<Waiting>, Several>
     requires sound { IsSound plan.now.graph fields.now }
     requires unit { IsUnit plan.now.graph waiting.unit }
-    requires tag { IsLeastTag plan.now.graph (waiting_in fields.now.queue.events) waiting.unit (Some waiting.tag) }
-    requires first { AreFirst plan.now.graph (waiting_in fields.now.queue.events) (busy_in fields.now.open_claims.items) reading waiting.unit.actor waiting.unit.group (one_of alone) }
-    ensures alone { IfOk result (λ alone. AreFirst plan.now.graph (waiting_in fields.now.queue.events) (busy_in fields.now.open_claims.items) reading waiting.unit.actor (waiting.unit.group + 1) (one_of alone)) }
-    ensures several { IfErr result (AreBothSafe plan.now.graph (waiting_in fields.now.queue.events) (busy_in fields.now.open_claims.items) reading) }
+    requires tag { IsLeastTag plan.now.graph (waiting_in fields.now.queue.events) waiting.unit
+        (Some waiting.tag) }
+    requires first { AreFirst plan.now.graph (waiting_in fields.now.queue.events)
+        (busy_in fields.now.open_claims.items) reading waiting.unit.actor waiting.unit.group
+        (one_of alone) }
+    ensures alone { IfOk result (λ alone.
+        AreFirst plan.now.graph (waiting_in fields.now.queue.events)
+        (busy_in fields.now.open_claims.items) reading waiting.unit.actor (waiting.unit.group + 1)
+        (one_of alone)) }
+    ensures several { IfErr result (AreBothSafe plan.now.graph (waiting_in fields.now.queue.events)
+        (busy_in fields.now.open_claims.items) reading) }
 {
     let Waiting { unit, tag } = waiting;
     if !is_safe(fields, plan, reading, unit, tag) {
@@ -158,8 +179,11 @@ fn alone_with(
 /// Where few units have events mostly at most one is safe, and then no front is needed.
 pub fn alone(fields: &Fields, plan: &Plan, reading: Reading) -> Result<Option<Waiting>, Several>
     requires sound { IsSound plan.now.graph fields.now }
-    ensures alone { IfOk result (λ alone. AreFront plan.now.graph (waiting_in fields.now.queue.events) (busy_in fields.now.open_claims.items) reading false (one_of alone)) }
-    ensures several { IfErr result (AreBothSafe plan.now.graph (waiting_in fields.now.queue.events) (busy_in fields.now.open_claims.items) reading) }
+    ensures alone { IfOk result (λ alone.
+        AreFront plan.now.graph (waiting_in fields.now.queue.events)
+        (busy_in fields.now.open_claims.items) reading false (one_of alone)) }
+    ensures several { IfErr result (AreBothSafe plan.now.graph (waiting_in fields.now.queue.events)
+        (busy_in fields.now.open_claims.items) reading) }
 {
     let mut alone = None;
     let mut from = 0usize;
@@ -187,8 +211,11 @@ impl Front {
     #[inline(never)]
     pub fn refill(&mut self, fields: &Fields, plan: &Plan, reading: Reading, known: Option<Several>)
         requires sound { IsSound plan.now.graph fields.now }
-        requires known { IfSome known (AreBothSafe plan.now.graph (waiting_in fields.now.queue.events) (busy_in fields.now.open_claims.items) reading) }
-        ensures front { AreFront plan.now.graph (waiting_in fields.now.queue.events) (busy_in fields.now.open_claims.items) reading self.new.more (drop self.new.taken self.new.units.items) }
+        requires known { IfSome known (AreBothSafe plan.now.graph
+            (waiting_in fields.now.queue.events) (busy_in fields.now.open_claims.items) reading) }
+        ensures front { AreFront plan.now.graph (waiting_in fields.now.queue.events)
+            (busy_in fields.now.open_claims.items) reading self.new.more
+            (drop self.new.taken self.new.units.items) }
         ensures some { (self.new.taken < length self.new.units.items) ⊎ (self.new.more ≡ false) }
     {
         fill(fields, plan, reading, known, &mut self.units);
@@ -200,8 +227,12 @@ impl Front {
     #[inline(always)]
     pub fn take(&mut self, fields: &Fields, plan: &Plan, reading: Reading) -> Option<Waiting>
         requires sound { IsSound plan.now.graph fields.now }
-        requires front { AreFront plan.now.graph (waiting_in fields.now.queue.events) (busy_in fields.now.open_claims.items) reading self.old.more (drop self.old.taken self.old.units.items) }
-        ensures { IsTaken plan.now.graph (waiting_in fields.now.queue.events) (busy_in fields.now.open_claims.items) reading self.new.more (drop self.new.taken self.new.units.items) result }
+        requires front { AreFront plan.now.graph (waiting_in fields.now.queue.events)
+            (busy_in fields.now.open_claims.items) reading self.old.more
+            (drop self.old.taken self.old.units.items) }
+        ensures { IsTaken plan.now.graph (waiting_in fields.now.queue.events)
+            (busy_in fields.now.open_claims.items) reading self.new.more
+            (drop self.new.taken self.new.units.items) result }
     {
         if self.taken >= self.units.len() && self.more {
             self.refill(fields, plan, reading, None);
@@ -220,7 +251,8 @@ impl Front {
 /// The reading is in microseconds. Searches the units that have events.
 pub fn next_safe(fields: &Fields, plan: &Plan, reading: Reading) -> Option<Waiting>
     requires sound { IsSound plan.now.graph fields.now }
-    ensures { IsNextSafe plan.now.graph (waiting_in fields.now.queue.events) (busy_in fields.now.open_claims.items) reading result }
+    ensures { IsNextSafe plan.now.graph (waiting_in fields.now.queue.events)
+        (busy_in fields.now.open_claims.items) reading result }
 {
     let mut front = Front::new();
     front.take(fields, plan, reading)

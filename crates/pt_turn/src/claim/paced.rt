@@ -37,8 +37,11 @@ fn sooner_paced(offset: Option<i64>, tag: Tag, so_far: u64) -> u64
 /// The lesser of `so_far` and the paced reading of a unit at its least tag, if the unit has no open claim.
 fn sooner_of_unit(fields: &Fields, plan: &Plan, waiting: Waiting, so_far: u64) -> u64
     requires sound { IsSound plan.now.graph fields.now }
-    requires tag { IsLeastTag plan.now.graph (waiting_in fields.now.queue.events) waiting.unit (Some waiting.tag) }
-    ensures { IsLeastAmong (AtOrIn so_far (IsPacedNext plan.now.graph (waiting_in fields.now.queue.events) (busy_in fields.now.open_claims.items) waiting.unit)) result }
+    requires tag { IsLeastTag plan.now.graph (waiting_in fields.now.queue.events) waiting.unit
+        (Some waiting.tag) }
+    ensures { IsLeastAmong (AtOrIn so_far
+        (IsPacedNext plan.now.graph (waiting_in fields.now.queue.events)
+        (busy_in fields.now.open_claims.items) waiting.unit)) result }
 {
     if fields.open_claims.has(waiting.unit) {
         return so_far;
@@ -50,9 +53,12 @@ fn sooner_of_unit(fields: &Fields, plan: &Plan, waiting: Waiting, so_far: u64) -
 #[inline(always)]
 fn sooner_of_free_unit(fields: &Fields, plan: &Plan, waiting: Waiting, so_far: u64) -> u64
     requires sound { IsSound plan.now.graph fields.now }
-    requires tag { IsLeastTag plan.now.graph (waiting_in fields.now.queue.events) waiting.unit (Some waiting.tag) }
+    requires tag { IsLeastTag plan.now.graph (waiting_in fields.now.queue.events) waiting.unit
+        (Some waiting.tag) }
     requires free { busy_in fields.now.open_claims.items waiting.unit ≡ None }
-    ensures { IsLeastAmong (AtOrIn so_far (IsPacedNext plan.now.graph (waiting_in fields.now.queue.events) (busy_in fields.now.open_claims.items) waiting.unit)) result }
+    ensures { IsLeastAmong (AtOrIn so_far
+        (IsPacedNext plan.now.graph (waiting_in fields.now.queue.events)
+        (busy_in fields.now.open_claims.items) waiting.unit)) result }
 {
     sooner_paced(plan.offsets().of_unit(waiting.unit), waiting.tag, so_far)
 }
@@ -62,7 +68,9 @@ fn sooner_of_free_unit(fields: &Fields, plan: &Plan, waiting: Waiting, so_far: u
 #[inline(always)]
 pub fn paced_next(fields: &Fields, plan: &Plan, so_far: u64) -> u64
     requires sound { IsSound plan.now.graph fields.now }
-    ensures { IsLeastAmong (AtOrIn so_far (IsPacedOfSome plan.now.graph (waiting_in fields.now.queue.events) (busy_in fields.now.open_claims.items))) result }
+    ensures { IsLeastAmong (AtOrIn so_far
+        (IsPacedOfSome plan.now.graph (waiting_in fields.now.queue.events)
+        (busy_in fields.now.open_claims.items))) result }
 {
     if fields.queue.are_many() {
         return paced_next_of_many(fields, plan, so_far);
@@ -84,7 +92,9 @@ pub fn paced_next(fields: &Fields, plan: &Plan, so_far: u64) -> u64
 #[inline(never)]
 fn paced_next_of_many(fields: &Fields, plan: &Plan, so_far: u64) -> u64
     requires sound { IsSound plan.now.graph fields.now }
-    ensures { IsLeastAmong (AtOrIn so_far (IsPacedOfSome plan.now.graph (waiting_in fields.now.queue.events) (busy_in fields.now.open_claims.items))) result }
+    ensures { IsLeastAmong (AtOrIn so_far
+        (IsPacedOfSome plan.now.graph (waiting_in fields.now.queue.events)
+        (busy_in fields.now.open_claims.items))) result }
 {
     let mut least = so_far;
     let mut from = 0usize;

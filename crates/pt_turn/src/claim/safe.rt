@@ -34,7 +34,8 @@ pub fn has_reached(offset: Option<i64>, tag: Tag, reading: Reading) -> bool
 /// before.
 #[inline(always)]
 pub fn is_due(plan: &Plan, reading: Reading, unit: Unit, tag: Tag) -> bool
-    ensures { (result ≡ true) ↔ ((x b : ℕ) (path : Sequence Edge) → Feeds plan.now.graph x b path unit → tag.time + b < reading + (sum_along path).time) }
+    ensures { (result ≡ true) ↔ ((x b : ℕ) (path : Sequence Edge) →
+        Feeds plan.now.graph x b path unit → tag.time + b < reading + (sum_along path).time) }
 {
     has_reached(plan.offsets().of_unit(unit), tag, reading)
 }
@@ -63,8 +64,10 @@ fn is_free_of_claims(fields: &Fields, plan: &Plan, reading: Reading, unit: Unit,
     requires sound { IsSound plan.now.graph fields.now }
     requires unit { IsUnit plan.now.graph unit }
     requires tag { IsLeastTag plan.now.graph (waiting_in fields.now.queue.events) unit (Some tag) }
-    requires due { (x b : ℕ) (path : Sequence Edge) → Feeds plan.now.graph x b path unit → tag.time + b < reading + (sum_along path).time }
-    ensures { (result ≡ true) ↔ IsSafe plan.now.graph (waiting_in fields.now.queue.events) (busy_in fields.now.open_claims.items) reading unit tag }
+    requires due { (x b : ℕ) (path : Sequence Edge) → Feeds plan.now.graph x b path unit →
+        tag.time + b < reading + (sum_along path).time }
+    ensures { (result ≡ true) ↔ IsSafe plan.now.graph (waiting_in fields.now.queue.events)
+        (busy_in fields.now.open_claims.items) reading unit tag }
 {
     if fields.open_claims.has(unit) {
         return false;
@@ -84,8 +87,10 @@ pub fn is_free(fields: &Fields, plan: &Plan, reading: Reading, unit: Unit, tag: 
     requires sound { IsSound plan.now.graph fields.now }
     requires unit { IsUnit plan.now.graph unit }
     requires tag { IsLeastTag plan.now.graph (waiting_in fields.now.queue.events) unit (Some tag) }
-    requires due { (x b : ℕ) (path : Sequence Edge) → Feeds plan.now.graph x b path unit → tag.time + b < reading + (sum_along path).time }
-    ensures { (result ≡ true) ↔ IsSafe plan.now.graph (waiting_in fields.now.queue.events) (busy_in fields.now.open_claims.items) reading unit tag }
+    requires due { (x b : ℕ) (path : Sequence Edge) → Feeds plan.now.graph x b path unit →
+        tag.time + b < reading + (sum_along path).time }
+    ensures { (result ≡ true) ↔ IsSafe plan.now.graph (waiting_in fields.now.queue.events)
+        (busy_in fields.now.open_claims.items) reading unit tag }
 {
     if !fields.open_claims.is_empty() {
         return is_free_of_claims(fields, plan, reading, unit, tag);
@@ -107,7 +112,8 @@ pub fn is_safe(fields: &Fields, plan: &Plan, reading: Reading, unit: Unit, tag: 
     requires sound { IsSound plan.now.graph fields.now }
     requires unit { IsUnit plan.now.graph unit }
     requires tag { IsLeastTag plan.now.graph (waiting_in fields.now.queue.events) unit (Some tag) }
-    ensures { (result ≡ true) ↔ IsSafe plan.now.graph (waiting_in fields.now.queue.events) (busy_in fields.now.open_claims.items) reading unit tag }
+    ensures { (result ≡ true) ↔ IsSafe plan.now.graph (waiting_in fields.now.queue.events)
+        (busy_in fields.now.open_claims.items) reading unit tag }
 {
     if !is_due(plan, reading, unit, tag) {
         return false;

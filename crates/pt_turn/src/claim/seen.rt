@@ -18,7 +18,9 @@ fn sooner_seen(sensor: &Sensor, so_far: u64) -> u64
 
 /// The least of `so_far` and the readings at which the next row of each sensor is seen.
 pub fn seen_next(sensors: &[Sensor], so_far: u64) -> u64
-    ensures { IsLeastAmong (AtOrIn so_far (Below (length sensors.now) (λ i. IsSeenNext (slice_index_or sensors.now i no_sensor)))) result }
+    ensures { IsLeastAmong (AtOrIn so_far
+        (Below (length sensors.now) (λ i. IsSeenNext (slice_index_or sensors.now i no_sensor))))
+        result }
 {
     let mut least = so_far;
     for sensor in sensors {

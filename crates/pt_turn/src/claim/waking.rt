@@ -18,7 +18,8 @@ pub fn next_reading(fields: &Fields, plan: &Plan, platform: u32, closing: u64) -
     requires sound { IsSound plan.now.graph fields.now }
     requires sensors { AreSensors plan.now.graph fields.now.sensors.items }
     requires closing { IsClosing plan.now.graph platform closing }
-    ensures { (taken : Sequence OnLink) → IsNextReading plan.now.graph platform (state_of fields.now taken) result }
+    ensures { (taken : Sequence OnLink) →
+        IsNextReading plan.now.graph platform (state_of fields.now taken) result }
 {
     let seen = seen_next(fields.sensors.as_slice(), closing);
     paced_next(fields, plan, seen)

@@ -14,7 +14,8 @@ use pt_types::Graph;
 
 /// Whether a platform can close at a reading, given its closing reading, both in microseconds.
 fn can_close(fields: &Fields, closing: u64, reading: Reading) -> bool
-    ensures { (g : Graph) (platform : ℕ) (taken : Sequence OnLink) → IsClosing g platform closing → (result ≡ true) ↔ CanClose g platform (state_of fields.now taken) reading }
+    ensures { (g : Graph) (platform : ℕ) (taken : Sequence OnLink) → IsClosing g platform closing →
+        (result ≡ true) ↔ CanClose g platform (state_of fields.now taken) reading }
 {
     if fields.closed {
         return false;
@@ -48,9 +49,16 @@ pub fn close(
     requires links { length graph.now.links < 2 ^ 32 }
     requires messages { length graph.now.links ≤ fields.old.outbox.spare }
     ensures sound { IsSound graph.now fields.new }
-    ensures closes { (taken : Sequence OnLink) → Closes graph.now number (state_of fields.old taken) reading late (state_of fields.new taken) }
-    ensures messages { (fields.old.outbox.spare ≤ fields.new.outbox.spare + length graph.now.links) × (length fields.new.outbox.items ≤ length fields.old.outbox.items + length graph.now.links) }
-    ensures frame { (fields.new.queue ≡ fields.old.queue) × (fields.new.open_claims ≡ fields.old.open_claims) × (fields.new.states ≡ fields.old.states) × (fields.new.sensors ≡ fields.old.sensors) × (fields.new.reading ≡ fields.old.reading) × (fields.new.claims ≡ fields.old.claims) }
+    ensures closes { (taken : Sequence OnLink) →
+        Closes graph.now number (state_of fields.old taken) reading late
+        (state_of fields.new taken) }
+    ensures messages { (fields.old.outbox.spare ≤ fields.new.outbox.spare + length graph.now.links)
+        × (length fields.new.outbox.items
+        ≤ length fields.old.outbox.items + length graph.now.links) }
+    ensures frame { (fields.new.queue ≡ fields.old.queue)
+        × (fields.new.open_claims ≡ fields.old.open_claims)
+        × (fields.new.states ≡ fields.old.states) × (fields.new.sensors ≡ fields.old.sensors)
+        × (fields.new.reading ≡ fields.old.reading) × (fields.new.claims ≡ fields.old.claims) }
 {
     if late {
         return;

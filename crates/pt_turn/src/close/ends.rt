@@ -13,7 +13,8 @@ use pt_types::Graph;
 fn end_on(outbox: &mut Outbox, link: u32, from: u32, number: u32)
     requires link { link < outbox.old.links }
     requires room { 0 < outbox.old.spare }
-    ensures ends { (l : ℕ) → on_link l outbox.new.items ≡ on_link l outbox.old.items ++ ended_on l link from number }
+    ensures ends { (l : ℕ) → on_link l outbox.new.items
+        ≡ on_link l outbox.old.items ++ ended_on l link from number }
     ensures links { outbox.new.links ≡ outbox.old.links }
     ensures spare { outbox.old.spare ≤ outbox.new.spare + 1 }
     ensures len { length outbox.new.items ≤ length outbox.old.items + 1 }
@@ -29,7 +30,8 @@ pub fn shut_links(outbox: &mut Outbox, graph: &Graph, number: u32)
     requires links { length graph.now.links < 2 ^ 32 }
     requires outbox { outbox.old.links ≡ length graph.now.links }
     requires room { length graph.now.links ≤ outbox.old.spare }
-    ensures ends { (l : ℕ) → on_link l outbox.new.items ≡ on_link l outbox.old.items ++ end_for graph.now number (slice_get graph.now.links l) }
+    ensures ends { (l : ℕ) → on_link l outbox.new.items
+        ≡ on_link l outbox.old.items ++ end_for graph.now number (slice_get graph.now.links l) }
     ensures links { outbox.new.links ≡ outbox.old.links }
     ensures spare { outbox.old.spare ≤ outbox.new.spare + length graph.now.links }
     ensures len { length outbox.new.items ≤ length outbox.old.items + length graph.now.links }

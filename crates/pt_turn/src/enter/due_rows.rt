@@ -42,7 +42,8 @@ fn count_seen(rows: &[Row], entered: usize, reading: Reading) -> usize
 /// How many rows of all sensors are seen by a reading, in microseconds; `None` if 64 bits do not hold the count.
 pub fn count_due(graph: &Graph, sensors: &[Sensor], reading: Reading) -> Option<usize>
     requires { AreSensors graph.now sensors.now }
-    ensures { IfSome result (λ count. count ≡ length (all_due graph.now reading (left_in sensors.now))) }
+    ensures { IfSome result (λ count.
+        count ≡ length (all_due graph.now reading (left_in sensors.now))) }
 {
     let mut count: usize = 0;
     for sensor in sensors {

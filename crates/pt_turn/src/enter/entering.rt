@@ -21,11 +21,13 @@ fn enter_row(queue: &mut Queue, sensor: u32, row: Row, kept: &mut Vec<RowAt>)
     requires actor { sensor < length queue.old.groups }
     requires kept { vec_len kept.old < vec_capacity kept.old }
     requires absent { NothingThere (waiting_in queue.old.events) (seen_at sensor (row ∷ [])) }
-    ensures waits { waiting_in queue.new.events ≡ added (waiting_in queue.old.events) (seen_at sensor (row ∷ [])) }
+    ensures waits { waiting_in queue.new.events
+        ≡ added (waiting_in queue.old.events) (seen_at sensor (row ∷ [])) }
     ensures spare { queue.new.spare + 1 ≡ queue.old.spare }
     ensures groups { queue.new.groups ≡ queue.old.groups }
     ensures rows { kept.new.items ≡ kept.old.items ++ at_sensor sensor row ∷ [] }
-    ensures kept { (vec_capacity kept.old ≤ vec_capacity kept.new) × (vec_len kept.new ≡ vec_len kept.old + 1) }
+    ensures kept { (vec_capacity kept.old ≤ vec_capacity kept.new)
+        × (vec_len kept.new ≡ vec_len kept.old + 1) }
 {
     queue.insert(Event {
         tag: Tag {
@@ -73,14 +75,21 @@ fn enter_seen(
     requires entered { entered ≤ length rows.now }
     requires times { TimesRise (drop entered rows.now) }
     requires actor { sensor < length queue.old.groups }
-    requires absent { NothingThere (waiting_in queue.old.events) (seen_at sensor (due reading (drop entered rows.now))) }
+    requires absent { NothingThere (waiting_in queue.old.events)
+        (seen_at sensor (due reading (drop entered rows.now))) }
     requires spare { length (due reading (drop entered rows.now)) ≤ queue.old.spare }
-    requires kept { vec_len kept.old + length (due reading (drop entered rows.now)) ≤ vec_capacity kept.old }
-    ensures waits { waiting_in queue.new.events ≡ added (waiting_in queue.old.events) (seen_at sensor (due reading (drop entered rows.now))) }
-    ensures spare { queue.new.spare + length (due reading (drop entered rows.now)) ≡ queue.old.spare }
+    requires kept { vec_len kept.old + length (due reading (drop entered rows.now))
+        ≤ vec_capacity kept.old }
+    ensures waits { waiting_in queue.new.events
+        ≡ added (waiting_in queue.old.events)
+        (seen_at sensor (due reading (drop entered rows.now))) }
+    ensures spare { queue.new.spare + length (due reading (drop entered rows.now))
+        ≡ queue.old.spare }
     ensures groups { queue.new.groups ≡ queue.old.groups }
-    ensures rows { kept.new.items ≡ kept.old.items ++ map (at_sensor sensor) (due reading (drop entered rows.now)) }
-    ensures kept { (vec_capacity kept.old ≤ vec_capacity kept.new) × (vec_len kept.new ≡ vec_len kept.old + length (due reading (drop entered rows.now))) }
+    ensures rows { kept.new.items ≡ kept.old.items
+        ++ map (at_sensor sensor) (due reading (drop entered rows.now)) }
+    ensures kept { (vec_capacity kept.old ≤ vec_capacity kept.new)
+        × (vec_len kept.new ≡ vec_len kept.old + length (due reading (drop entered rows.now))) }
     ensures left { drop result rows.now ≡ not_due reading (drop entered rows.now) }
     ensures within { result ≤ length rows.now }
 {
@@ -107,14 +116,21 @@ fn enter_due(
     requires entered { entered ≤ length rows.now }
     requires times { TimesRise (drop entered rows.now) }
     requires actor { sensor < length queue.old.groups }
-    requires absent { NothingThere (waiting_in queue.old.events) (seen_at sensor (due reading (drop entered rows.now))) }
+    requires absent { NothingThere (waiting_in queue.old.events)
+        (seen_at sensor (due reading (drop entered rows.now))) }
     requires spare { length (due reading (drop entered rows.now)) ≤ queue.old.spare }
-    requires kept { vec_len kept.old + length (due reading (drop entered rows.now)) ≤ vec_capacity kept.old }
-    ensures waits { waiting_in queue.new.events ≡ added (waiting_in queue.old.events) (seen_at sensor (due reading (drop entered rows.now))) }
-    ensures spare { queue.new.spare + length (due reading (drop entered rows.now)) ≡ queue.old.spare }
+    requires kept { vec_len kept.old + length (due reading (drop entered rows.now))
+        ≤ vec_capacity kept.old }
+    ensures waits { waiting_in queue.new.events
+        ≡ added (waiting_in queue.old.events)
+        (seen_at sensor (due reading (drop entered rows.now))) }
+    ensures spare { queue.new.spare + length (due reading (drop entered rows.now))
+        ≡ queue.old.spare }
     ensures groups { queue.new.groups ≡ queue.old.groups }
-    ensures rows { kept.new.items ≡ kept.old.items ++ map (at_sensor sensor) (due reading (drop entered rows.now)) }
-    ensures kept { (vec_capacity kept.old ≤ vec_capacity kept.new) × (vec_len kept.new ≡ vec_len kept.old + length (due reading (drop entered rows.now))) }
+    ensures rows { kept.new.items ≡ kept.old.items
+        ++ map (at_sensor sensor) (due reading (drop entered rows.now)) }
+    ensures kept { (vec_capacity kept.old ≤ vec_capacity kept.new)
+        × (vec_len kept.new ≡ vec_len kept.old + length (due reading (drop entered rows.now))) }
     ensures left { drop result rows.now ≡ not_due reading (drop entered rows.now) }
     ensures within { result ≤ length rows.now }
 {
@@ -132,17 +148,27 @@ pub fn enter(fields: &mut Fields, graph: &Graph, reading: Reading, kept: &mut Ve
     requires sound { IsSound graph.now fields.old }
     requires sensors { AreSensors graph.now fields.old.sensors.items }
     requires never { (taken : Sequence OnLink) → NeverEnters (state_of fields.old taken) reading }
-    requires events { length (all_due graph.now reading (left_in fields.old.sensors.items)) ≤ fields.old.queue.spare }
-    requires kept { vec_len kept.old + length (all_due graph.now reading (left_in fields.old.sensors.items)) ≤ vec_capacity kept.old }
+    requires events { length (all_due graph.now reading (left_in fields.old.sensors.items))
+        ≤ fields.old.queue.spare }
+    requires kept { vec_len kept.old + length
+        (all_due graph.now reading (left_in fields.old.sensors.items)) ≤ vec_capacity kept.old }
     ensures sound { IsSound graph.now fields.new }
     ensures sensors { AreSensors graph.now fields.new.sensors.items }
-    ensures entered { (taken : Sequence OnLink) → state_of fields.new taken ≡ after_rows (state_of fields.old taken) reading }
-    ensures rows { kept.new.items ≡ kept.old.items ++ all_due graph.now reading (left_in fields.old.sensors.items) }
-    ensures all_rows { (a : ℕ) → rows_at_sensors fields.new.sensors.items a ≡ rows_at_sensors fields.old.sensors.items a }
-    ensures events { fields.old.queue.spare ≡ fields.new.queue.spare + length (all_due graph.now reading (left_in fields.old.sensors.items)) }
+    ensures entered { (taken : Sequence OnLink) →
+        state_of fields.new taken ≡ after_rows (state_of fields.old taken) reading }
+    ensures rows { kept.new.items ≡ kept.old.items
+        ++ all_due graph.now reading (left_in fields.old.sensors.items) }
+    ensures all_rows { (a : ℕ) → rows_at_sensors fields.new.sensors.items a
+        ≡ rows_at_sensors fields.old.sensors.items a }
+    ensures events { fields.old.queue.spare
+        ≡ fields.new.queue.spare + length
+        (all_due graph.now reading (left_in fields.old.sensors.items)) }
     ensures kept { vec_capacity kept.old ≤ vec_capacity kept.new }
     ensures groups { fields.new.queue.groups ≡ fields.old.queue.groups }
-    ensures frame { (fields.new.open_claims ≡ fields.old.open_claims) × (fields.new.states ≡ fields.old.states) × (fields.new.outbox ≡ fields.old.outbox) × (fields.new.reading ≡ fields.old.reading) × (fields.new.closed ≡ fields.old.closed) × (fields.new.claims ≡ fields.old.claims) }
+    ensures frame { (fields.new.open_claims ≡ fields.old.open_claims)
+        × (fields.new.states ≡ fields.old.states) × (fields.new.outbox ≡ fields.old.outbox)
+        × (fields.new.reading ≡ fields.old.reading) × (fields.new.closed ≡ fields.old.closed)
+        × (fields.new.claims ≡ fields.old.claims) }
 {
     for i in 0..fields.sensors.len() {
         let sensor = &fields.sensors[i];

@@ -25,18 +25,28 @@ pub fn enter_from(
     requires sound { IsSound graph.now fields.old }
     requires sensors { AreSensors graph.now fields.old.sensors.items }
     requires never { (taken : Sequence OnLink) → NeverEnters (state_of fields.old taken) reading }
-    requires events { length (all_due graph.now reading (left_in fields.old.sensors.items)) ≤ fields.old.queue.spare }
-    requires kept { vec_len kept.old + length (all_due graph.now reading (left_in fields.old.sensors.items)) ≤ vec_capacity kept.old }
+    requires events { length (all_due graph.now reading (left_in fields.old.sensors.items))
+        ≤ fields.old.queue.spare }
+    requires kept { vec_len kept.old + length
+        (all_due graph.now reading (left_in fields.old.sensors.items)) ≤ vec_capacity kept.old }
     requires next_row { NoneSeenBefore next_row.old (left_in fields.old.sensors.items) }
     ensures sound { IsSound graph.now fields.new }
     ensures sensors { AreSensors graph.now fields.new.sensors.items }
-    ensures entered { (taken : Sequence OnLink) → state_of fields.new taken ≡ after_rows (state_of fields.old taken) reading }
-    ensures rows { kept.new.items ≡ kept.old.items ++ all_due graph.now reading (left_in fields.old.sensors.items) }
-    ensures all_rows { (a : ℕ) → rows_at_sensors fields.new.sensors.items a ≡ rows_at_sensors fields.old.sensors.items a }
-    ensures events { fields.old.queue.spare ≡ fields.new.queue.spare + length (all_due graph.now reading (left_in fields.old.sensors.items)) }
+    ensures entered { (taken : Sequence OnLink) →
+        state_of fields.new taken ≡ after_rows (state_of fields.old taken) reading }
+    ensures rows { kept.new.items ≡ kept.old.items
+        ++ all_due graph.now reading (left_in fields.old.sensors.items) }
+    ensures all_rows { (a : ℕ) → rows_at_sensors fields.new.sensors.items a
+        ≡ rows_at_sensors fields.old.sensors.items a }
+    ensures events { fields.old.queue.spare
+        ≡ fields.new.queue.spare + length
+        (all_due graph.now reading (left_in fields.old.sensors.items)) }
     ensures kept { vec_capacity kept.old ≤ vec_capacity kept.new }
     ensures groups { fields.new.queue.groups ≡ fields.old.queue.groups }
-    ensures frame { (fields.new.open_claims ≡ fields.old.open_claims) × (fields.new.states ≡ fields.old.states) × (fields.new.outbox ≡ fields.old.outbox) × (fields.new.reading ≡ fields.old.reading) × (fields.new.closed ≡ fields.old.closed) × (fields.new.claims ≡ fields.old.claims) }
+    ensures frame { (fields.new.open_claims ≡ fields.old.open_claims)
+        × (fields.new.states ≡ fields.old.states) × (fields.new.outbox ≡ fields.old.outbox)
+        × (fields.new.reading ≡ fields.old.reading) × (fields.new.closed ≡ fields.old.closed)
+        × (fields.new.claims ≡ fields.old.claims) }
     ensures next_row { NoneSeenBefore next_row.new (left_in fields.new.sensors.items) }
 {
     if reading < *next_row {

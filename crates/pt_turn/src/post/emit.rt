@@ -25,8 +25,10 @@ fn send_one(queue: &mut Queue, wire: Wire, delay: Delay, until: Time, tag: Tag, 
     requires spare { 0 < queue.old.spare }
     requires actor { wire.to < length queue.old.groups }
     requires port { wire.input < 8 }
-    requires absent { NothingThere (waiting_in queue.old.events) (sent wire delay until tag output) }
-    ensures waits { waiting_in queue.new.events ≡ added (waiting_in queue.old.events) (sent wire delay until tag output) }
+    requires absent { NothingThere (waiting_in queue.old.events)
+        (sent wire delay until tag output) }
+    ensures waits { waiting_in queue.new.events
+        ≡ added (waiting_in queue.old.events) (sent wire delay until tag output) }
     ensures groups { queue.new.groups ≡ queue.old.groups }
     ensures spare { queue.old.spare ≤ queue.new.spare + 1 }
 {
@@ -53,15 +55,19 @@ fn send_one(queue: &mut Queue, wire: Wire, delay: Delay, until: Time, tag: Tag, 
 /// Sends a unit's output along one wire, if the wire leaves the unit.
 fn emit_along(queue: &mut Queue, graph: &Graph, unit: Unit, tag: Tag, outputs: &Ports, wire: Wire)
     requires fits { wire.from ≡ unit.actor → Fits (plus tag (of_wire graph.now wire).weight) }
-    requires spare { leaves_unit graph.now unit (of_wire graph.now wire) ≡ true → 0 < queue.old.spare }
+    requires spare { leaves_unit graph.now unit (of_wire graph.now wire) ≡ true →
+        0 < queue.old.spare }
     requires from { wire.from < length graph.now.actors }
     requires actor { wire.to < length queue.old.groups }
     requires port { wire.input < 8 }
-    requires absent { NothingThere (waiting_in queue.old.events) (along graph.now unit tag outputs.now wire) }
-    ensures waits { waiting_in queue.new.events ≡ added (waiting_in queue.old.events) (along graph.now unit tag outputs.now wire) }
+    requires absent { NothingThere (waiting_in queue.old.events)
+        (along graph.now unit tag outputs.now wire) }
+    ensures waits { waiting_in queue.new.events
+        ≡ added (waiting_in queue.old.events) (along graph.now unit tag outputs.now wire) }
     ensures groups { queue.new.groups ≡ queue.old.groups }
     ensures spare { queue.old.spare ≤ queue.new.spare + 1 }
-    ensures idle { leaves_unit graph.now unit (of_wire graph.now wire) ≡ false → queue.old.spare ≤ queue.new.spare }
+    ensures idle { leaves_unit graph.now unit (of_wire graph.now wire) ≡ false →
+        queue.old.spare ≤ queue.new.spare }
 {
     if wire.from != unit.actor {
         return;
@@ -96,8 +102,11 @@ pub fn emit(
     requires wired { IsWired graph.now }
     requires fits { SumsFit graph.now unit.actor tag }
     requires room { leaving graph.now unit graph.now.wires ≤ queue.old.spare }
-    requires absent { NothingThere (waiting_in queue.old.events) (going graph.now (wires graph.now) (leaves_unit graph.now unit) tag outputs.now) }
-    ensures waits { waiting_in queue.new.events ≡ added (waiting_in queue.old.events) (going graph.now (wires graph.now) (leaves_unit graph.now unit) tag outputs.now) }
+    requires absent { NothingThere (waiting_in queue.old.events)
+        (going graph.now (wires graph.now) (leaves_unit graph.now unit) tag outputs.now) }
+    ensures waits { waiting_in queue.new.events
+        ≡ added (waiting_in queue.old.events)
+        (going graph.now (wires graph.now) (leaves_unit graph.now unit) tag outputs.now) }
     ensures groups { queue.new.groups ≡ queue.old.groups }
     ensures spare { queue.old.spare ≤ queue.new.spare + leaving graph.now unit graph.now.wires }
 {

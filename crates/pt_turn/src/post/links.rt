@@ -15,7 +15,8 @@ use pt_types::{Graph, Kind, Link, Ports};
 fn send_on(outbox: &mut Outbox, number: u32, link: Link, actor: u32, tag: Tag, output: Option<i64>)
     requires number { number < outbox.old.links }
     requires room { 0 < outbox.old.spare }
-    ensures sent { (l : ℕ) → on_link l outbox.new.items ≡ on_link l outbox.old.items ++ sent_on l number link actor tag output }
+    ensures sent { (l : ℕ) → on_link l outbox.new.items
+        ≡ on_link l outbox.old.items ++ sent_on l number link actor tag output }
     ensures links { outbox.new.links ≡ outbox.old.links }
     ensures spare { outbox.old.spare ≤ outbox.new.spare + 1 }
     ensures len { length outbox.new.items ≤ length outbox.old.items + 1 }
@@ -50,7 +51,9 @@ pub fn send(outbox: &mut Outbox, graph: &Graph, actor: u32, tag: Tag, outputs: &
     requires links { length graph.now.links < 2 ^ 32 }
     requires outbox { outbox.old.links ≡ length graph.now.links }
     requires room { length graph.now.links ≤ outbox.old.spare }
-    ensures sent { (l : ℕ) → on_link l outbox.new.items ≡ on_link l outbox.old.items ++ message_from (slice_get graph.now.links l) actor tag outputs.now }
+    ensures sent { (l : ℕ) → on_link l outbox.new.items
+        ≡ on_link l outbox.old.items ++ message_from
+        (slice_get graph.now.links l) actor tag outputs.now }
     ensures links { outbox.new.links ≡ outbox.old.links }
     ensures spare { outbox.old.spare ≤ outbox.new.spare + length graph.now.links }
     ensures len { length outbox.new.items ≤ length outbox.old.items + length graph.now.links }
@@ -67,7 +70,9 @@ fn send_on_links(outbox: &mut Outbox, graph: &Graph, actor: u32, tag: Tag, outpu
     requires links { length graph.now.links < 2 ^ 32 }
     requires outbox { outbox.old.links ≡ length graph.now.links }
     requires room { length graph.now.links ≤ outbox.old.spare }
-    ensures sent { (l : ℕ) → on_link l outbox.new.items ≡ on_link l outbox.old.items ++ message_from (slice_get graph.now.links l) actor tag outputs.now }
+    ensures sent { (l : ℕ) → on_link l outbox.new.items
+        ≡ on_link l outbox.old.items ++ message_from
+        (slice_get graph.now.links l) actor tag outputs.now }
     ensures links { outbox.new.links ≡ outbox.old.links }
     ensures spare { outbox.old.spare ≤ outbox.new.spare + length graph.now.links }
     ensures len { length outbox.new.items ≤ length outbox.old.items + length graph.now.links }

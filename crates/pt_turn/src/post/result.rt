@@ -25,18 +25,29 @@ pub fn post(fields: &mut Fields, graph: &Graph, branches: &Branches, done: &Done
     requires wired { IsWired graph.now }
     requires branches { AreBranches graph.now branches.now }
     requires links { length graph.now.links < 2 ^ 32 }
-    requires fits { IsOpenClaim graph.now fields.old done.now.task → SumsFit graph.now done.now.task.actor done.now.task.tag }
-    requires events { leaving_open graph.now (busy_in fields.old.open_claims.items) graph.now.wires ≤ fields.old.queue.spare }
+    requires fits { IsOpenClaim graph.now fields.old done.now.task →
+        SumsFit graph.now done.now.task.actor done.now.task.tag }
+    requires events { leaving_open graph.now (busy_in fields.old.open_claims.items) graph.now.wires
+        ≤ fields.old.queue.spare }
     requires messages { length graph.now.links ≤ fields.old.outbox.spare }
-    requires absent { IsOpenClaim graph.now fields.old done.now.task → FindsNothing graph.now fields.old done.now }
+    requires absent { IsOpenClaim graph.now fields.old done.now.task →
+        FindsNothing graph.now fields.old done.now }
     ensures sound { IsSound graph.now fields.new }
     ensures claimed { (result ≡ true) ↔ IsOpenClaim graph.now fields.old done.now.task }
-    ensures posted { result ≡ true → (taken : Sequence OnLink) → state_of fields.new taken ≡ after_post graph.now (state_of fields.old taken) done.now }
+    ensures posted { result ≡ true → (taken : Sequence OnLink) →
+        state_of fields.new taken ≡ after_post graph.now (state_of fields.old taken) done.now }
     ensures passed { result ≡ false → fields.new ≡ fields.old }
-    ensures events { fields.old.queue.spare + leaving_open graph.now (busy_in fields.new.open_claims.items) graph.now.wires ≤ fields.new.queue.spare + leaving_open graph.now (busy_in fields.old.open_claims.items) graph.now.wires }
-    ensures messages { (fields.old.outbox.spare ≤ fields.new.outbox.spare + length graph.now.links) × (length fields.new.outbox.items ≤ length fields.old.outbox.items + length graph.now.links) }
+    ensures events { fields.old.queue.spare + leaving_open graph.now
+        (busy_in fields.new.open_claims.items) graph.now.wires
+        ≤ fields.new.queue.spare + leaving_open graph.now
+        (busy_in fields.old.open_claims.items) graph.now.wires }
+    ensures messages { (fields.old.outbox.spare ≤ fields.new.outbox.spare + length graph.now.links)
+        × (length fields.new.outbox.items
+        ≤ length fields.old.outbox.items + length graph.now.links) }
     ensures open_claims { fields.new.open_claims.spare ≡ fields.old.open_claims.spare }
-    ensures frame { (fields.new.sensors ≡ fields.old.sensors) × (fields.new.reading ≡ fields.old.reading) × (fields.new.closed ≡ fields.old.closed) × (fields.new.claims ≡ fields.old.claims) }
+    ensures frame { (fields.new.sensors ≡ fields.old.sensors)
+        × (fields.new.reading ≡ fields.old.reading) × (fields.new.closed ≡ fields.old.closed)
+        × (fields.new.claims ≡ fields.old.claims) }
     ensures groups { fields.new.queue.groups ≡ fields.old.queue.groups }
 {
     match fields.open_claims.take(&done.task) {

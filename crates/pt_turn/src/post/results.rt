@@ -33,17 +33,28 @@ pub fn posts(
     requires dones { AreDone graph.now dones.now }
     requires fit { ClaimsFit graph.now fields.old.open_claims.items }
     requires never { (taken : Sequence OnLink) → NeverPosts graph.now (state_of fields.old taken) }
-    requires events { leaving_open graph.now (busy_in fields.old.open_claims.items) graph.now.wires ≤ fields.old.queue.spare }
+    requires events { leaving_open graph.now (busy_in fields.old.open_claims.items) graph.now.wires
+        ≤ fields.old.queue.spare }
     requires messages { length dones.now * length graph.now.links ≤ fields.old.outbox.spare }
     requires kept { vec_len kept.old + length dones.now ≤ vec_capacity kept.old }
     ensures sound { IsSound graph.now fields.new }
-    ensures posted { Posted graph.now fields.old fields.new dones.now (picked dones.now kept.old.items) (picked dones.now kept.new.items) }
+    ensures posted { Posted graph.now fields.old fields.new dones.now
+        (picked dones.now kept.old.items) (picked dones.now kept.new.items) }
     ensures places { ArePlaces dones.now kept.old.items → ArePlaces dones.now kept.new.items }
-    ensures events { fields.old.queue.spare + leaving_open graph.now (busy_in fields.new.open_claims.items) graph.now.wires ≤ fields.new.queue.spare + leaving_open graph.now (busy_in fields.old.open_claims.items) graph.now.wires }
-    ensures messages { (fields.old.outbox.spare ≤ fields.new.outbox.spare + length dones.now * length graph.now.links) × (length fields.new.outbox.items ≤ length fields.old.outbox.items + length dones.now * length graph.now.links) }
-    ensures kept { (vec_capacity kept.old ≤ vec_capacity kept.new) × (vec_len kept.new ≤ vec_len kept.old + length dones.now) }
+    ensures events { fields.old.queue.spare + leaving_open graph.now
+        (busy_in fields.new.open_claims.items) graph.now.wires
+        ≤ fields.new.queue.spare + leaving_open graph.now
+        (busy_in fields.old.open_claims.items) graph.now.wires }
+    ensures messages { (fields.old.outbox.spare
+        ≤ fields.new.outbox.spare + length dones.now * length graph.now.links)
+        × (length fields.new.outbox.items
+        ≤ length fields.old.outbox.items + length dones.now * length graph.now.links) }
+    ensures kept { (vec_capacity kept.old ≤ vec_capacity kept.new)
+        × (vec_len kept.new ≤ vec_len kept.old + length dones.now) }
     ensures open_claims { fields.new.open_claims.spare ≡ fields.old.open_claims.spare }
-    ensures frame { (fields.new.sensors ≡ fields.old.sensors) × (fields.new.reading ≡ fields.old.reading) × (fields.new.closed ≡ fields.old.closed) × (fields.new.claims ≡ fields.old.claims) }
+    ensures frame { (fields.new.sensors ≡ fields.old.sensors)
+        × (fields.new.reading ≡ fields.old.reading) × (fields.new.closed ≡ fields.old.closed)
+        × (fields.new.claims ≡ fields.old.claims) }
     ensures groups { fields.new.queue.groups ≡ fields.old.queue.groups }
 {
     for (place, done) in dones.iter().enumerate() {

@@ -38,7 +38,8 @@ impl Model for OpenClaims {
 
     ghost view = { λ o. record { items = o.claims.items; spare = o.spare } };
 
-    ghost invariant = { λ o. AreOfDifferentUnits o.claims.items × (o.spare + deque_len o.claims ≤ deque_capacity o.claims) };
+    ghost invariant = { λ o. AreOfDifferentUnits o.claims.items
+        × (o.spare + deque_len o.claims ≤ deque_capacity o.claims) };
 }
 
 /// Whether the first open claim is that of a unit.
@@ -137,8 +138,10 @@ impl OpenClaims {
         requires spare { 0 < self.old.spare }
         requires free { busy_in self.old.items claim.unit ≡ None }
         ensures items { self.new.items ≡ self.old.items ++ claim ∷ [] }
-        ensures busy { busy_in self.new.items ≡ put_busy (busy_in self.old.items) claim.unit (Some claim.task) }
-        ensures open_claims { (g : Graph) → Each (IsOpen g self.old.items) self.old.items → claim.unit ≡ unit_of g claim.task → IsUnit g claim.unit
+        ensures busy { busy_in self.new.items
+            ≡ put_busy (busy_in self.old.items) claim.unit (Some claim.task) }
+        ensures open_claims { (g : Graph) → Each (IsOpen g self.old.items) self.old.items →
+            claim.unit ≡ unit_of g claim.task → IsUnit g claim.unit
             → Each (IsOpen g self.new.items) self.new.items }
         ensures spare { self.new.spare + 1 ≡ self.old.spare }
     {
@@ -154,9 +157,12 @@ impl OpenClaims {
     #[inline(always)]
     pub fn take(&mut self, task: &Task) -> Option<Unit>
         ensures found { IsFound self.old.items task.now result }
-        ensures items { MatchOption result (self.new ≡ self.old) (λ unit. self.new.items ≡ filter (is_other unit) self.old.items) }
-        ensures busy { IfSome result (λ unit. busy_in self.new.items ≡ put_busy (busy_in self.old.items) unit None) }
-        ensures open_claims { (g : Graph) → Each (IsOpen g self.old.items) self.old.items → Each (IsOpen g self.new.items) self.new.items }
+        ensures items { MatchOption result (self.new ≡ self.old)
+            (λ unit. self.new.items ≡ filter (is_other unit) self.old.items) }
+        ensures busy { IfSome result (λ unit.
+            busy_in self.new.items ≡ put_busy (busy_in self.old.items) unit None) }
+        ensures open_claims { (g : Graph) → Each (IsOpen g self.old.items) self.old.items →
+            Each (IsOpen g self.new.items) self.new.items }
         ensures spare { self.new.spare ≡ self.old.spare }
     {
         match first_with(&self.claims, task) {
@@ -172,9 +178,12 @@ impl OpenClaims {
     #[inline(never)]
     fn take_among(&mut self, task: &Task) -> Option<Unit>
         ensures found { IsFound self.old.items task.now result }
-        ensures items { MatchOption result (self.new ≡ self.old) (λ unit. self.new.items ≡ filter (is_other unit) self.old.items) }
-        ensures busy { IfSome result (λ unit. busy_in self.new.items ≡ put_busy (busy_in self.old.items) unit None) }
-        ensures open_claims { (g : Graph) → Each (IsOpen g self.old.items) self.old.items → Each (IsOpen g self.new.items) self.new.items }
+        ensures items { MatchOption result (self.new ≡ self.old)
+            (λ unit. self.new.items ≡ filter (is_other unit) self.old.items) }
+        ensures busy { IfSome result (λ unit.
+            busy_in self.new.items ≡ put_busy (busy_in self.old.items) unit None) }
+        ensures open_claims { (g : Graph) → Each (IsOpen g self.old.items) self.old.items →
+            Each (IsOpen g self.new.items) self.new.items }
         ensures spare { self.new.spare ≡ self.old.spare }
     {
         match self.find_among(task) {
@@ -190,7 +199,8 @@ impl OpenClaims {
     fn close(&mut self, unit: Unit)
         ensures items { self.new.items ≡ filter (is_other unit) self.old.items }
         ensures busy { busy_in self.new.items ≡ put_busy (busy_in self.old.items) unit None }
-        ensures open_claims { (g : Graph) → Each (IsOpen g self.old.items) self.old.items → Each (IsOpen g self.new.items) self.new.items }
+        ensures open_claims { (g : Graph) → Each (IsOpen g self.old.items) self.old.items →
+            Each (IsOpen g self.new.items) self.new.items }
         ensures spare { self.new.spare ≡ self.old.spare }
     {
         match place_of(&self.claims, unit) {

@@ -27,15 +27,23 @@ impl Model for Outbox {
 
     ghost Value = { OutboxView };
 
-    ghost view = { λ o. record { items = items_of o.slots.items o.queues.items; links = length o.queues.items; spare = o.spare } };
+    ghost view = { λ o. record {
+      items = items_of o.slots.items o.queues.items;
+      links = length o.queues.items;
+      spare = o.spare;
+    } };
 
-    ghost invariant = { λ o. AreQueues o.slots.items o.queues.items × IsChain o.slots.items None o.free.first o.free.count × (length (items_of o.slots.items o.queues.items) + o.free.count ≡ vec_len o.slots) × (o.spare + vec_len o.slots ≤ vec_capacity o.slots + o.free.count) };
+    ghost invariant = { λ o. AreQueues o.slots.items o.queues.items
+        × IsChain o.slots.items None o.free.first o.free.count
+        × (length (items_of o.slots.items o.queues.items) + o.free.count ≡ vec_len o.slots)
+        × (o.spare + vec_len o.slots ≤ vec_capacity o.slots + o.free.count) };
 }
 
 impl Outbox {
     /// An empty outbox for this number of links.
     pub fn new(alloc: Global, links: usize) -> Result<Outbox, Memory>
-        ensures empty { IfOk result (λ outbox. outbox ≡ record { items = []; links = links; spare = 0 }) }
+        ensures empty { IfOk result (λ outbox.
+            outbox ≡ record { items = []; links = links; spare = 0 }) }
     {
         let none = Chain {
             first: 0,
@@ -96,7 +104,8 @@ impl Outbox {
     pub fn push_reserved(&mut self, link: u32, message: Message)
         requires link { link < self.old.links }
         requires spare { 0 < self.old.spare }
-        ensures messages { (l : ℕ) → on_link l self.new.items ≡ on_link l self.old.items ++ (if l == link then message ∷ [] else []) }
+        ensures messages { (l : ℕ) → on_link l self.new.items
+            ≡ on_link l self.old.items ++ (if l == link then message ∷ [] else []) }
         ensures len { length self.new.items ≡ length self.old.items + 1 }
         ensures links { self.new.links ≡ self.old.links }
         ensures spare { self.new.spare + 1 ≡ self.old.spare }
@@ -109,9 +118,12 @@ impl Outbox {
 
     /// Takes the first message of a link; `None` if there is none.
     pub fn pop(&mut self, link: u32) -> Option<Message>
-        ensures first { MatchOption result (on_link link self.old.items ≡ []) (λ message. on_link link self.old.items ≡ message ∷ on_link link self.new.items) }
-        ensures others { (l : ℕ) → (l ≡ link → ⊥) → on_link l self.new.items ≡ on_link l self.old.items }
-        ensures len { MatchOption result (self.new ≡ self.old) (λ _. length self.new.items + 1 ≡ length self.old.items) }
+        ensures first { MatchOption result (on_link link self.old.items ≡ [])
+            (λ message. on_link link self.old.items ≡ message ∷ on_link link self.new.items) }
+        ensures others { (l : ℕ) → (l ≡ link → ⊥) →
+            on_link l self.new.items ≡ on_link l self.old.items }
+        ensures len { MatchOption result (self.new ≡ self.old)
+            (λ _. length self.new.items + 1 ≡ length self.old.items) }
         ensures links { self.new.links ≡ self.old.links }
         ensures spare { self.new.spare ≡ self.old.spare }
     {

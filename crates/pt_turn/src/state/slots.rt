@@ -36,9 +36,13 @@ pub struct Free {
 pub fn put(slots: &mut Vec<Slot>, free: &mut Free, link: u32, message: Message) -> usize
     requires free { IsChain slots.old.items None free.old.first free.old.count }
     requires room { vec_len slots.old < vec_capacity slots.old + free.old.count }
-    ensures placed { (result < length slots.new.items) × (slot_at slots.new.items result ≡ record { message = message; link = Some link; next = 0 }) }
-    ensures others { (l k n : ℕ) → IsChain slots.old.items (Some l) k n → Stays slots.old.items slots.new.items (Some l) k n }
-    ensures apart { (l k n : ℕ) → IsChain slots.old.items (Some l) k n → IsIn result (walk slots.old.items k n) → ⊥ }
+    ensures placed { (result < length slots.new.items)
+        × (slot_at slots.new.items result
+        ≡ record { message = message; link = Some link; next = 0 }) }
+    ensures others { (l k n : ℕ) → IsChain slots.old.items (Some l) k n →
+        Stays slots.old.items slots.new.items (Some l) k n }
+    ensures apart { (l k n : ℕ) → IsChain slots.old.items (Some l) k n →
+        IsIn result (walk slots.old.items k n) → ⊥ }
     ensures free { IsChain slots.new.items None free.new.first free.new.count }
     ensures len { vec_len slots.new + free.old.count ≡ vec_len slots.old + free.new.count + 1 }
     ensures capacity { vec_capacity slots.old ≤ vec_capacity slots.new }
@@ -64,10 +68,16 @@ pub fn put(slots: &mut Vec<Slot>, free: &mut Free, link: u32, message: Message) 
 pub fn join(slots: &mut Vec<Slot>, queue: Chain, place: usize) -> Chain
     requires last { 0 < queue.count → queue.last < length slots.old.items }
     requires few { queue.count < vec_len slots.old }
-    ensures slots { slots.new.items ≡ (if queue.count == 0 then slots.old.items else slots_joined slots.old.items queue.last place) }
+    ensures slots { slots.new.items ≡
+        (if queue.count == 0 then slots.old.items else slots_joined slots.old.items queue.last
+        place) }
     ensures len { vec_len slots.new ≡ vec_len slots.old }
     ensures capacity { vec_capacity slots.old ≤ vec_capacity slots.new }
-    ensures queue { result ≡ record { first = if queue.count == 0 then place else queue.first; last = place; count = queue.count + 1 } }
+    ensures queue { result ≡ record {
+      first = if queue.count == 0 then place else queue.first;
+      last = place;
+      count = queue.count + 1;
+    } }
 {
     let mut first = place;
     if queue.count != 0 {

@@ -21,7 +21,8 @@ fn deliver(queue: &mut Queue, link: Link, message: Message)
     requires spare { 0 < queue.old.spare }
     requires actor { link.to < length queue.old.groups }
     requires absent { NothingThere (waiting_in queue.old.events) (carried link message) }
-    ensures waits { waiting_in queue.new.events ≡ added (waiting_in queue.old.events) (carried link message) }
+    ensures waits { waiting_in queue.new.events
+        ≡ added (waiting_in queue.old.events) (carried link message) }
     ensures groups { queue.new.groups ≡ queue.old.groups }
     ensures spare { queue.old.spare ≤ queue.new.spare + 1 }
 {
@@ -59,11 +60,16 @@ pub fn takes(
     requires events { length messages.now ≤ fields.old.queue.spare }
     requires kept { vec_len kept.old + length messages.now ≤ vec_capacity kept.old }
     ensures sound { IsSound graph.now fields.new }
-    ensures took { Taken graph.now basis fields.old fields.new kept.old.items kept.new.items messages.now result }
+    ensures took { Taken graph.now basis fields.old fields.new kept.old.items kept.new.items
+        messages.now result }
     ensures events { fields.old.queue.spare ≤ fields.new.queue.spare + length messages.now }
-    ensures kept { (vec_capacity kept.old ≤ vec_capacity kept.new) × (vec_len kept.new ≤ vec_len kept.old + length messages.now) }
+    ensures kept { (vec_capacity kept.old ≤ vec_capacity kept.new)
+        × (vec_len kept.new ≤ vec_len kept.old + length messages.now) }
     ensures groups { fields.new.queue.groups ≡ fields.old.queue.groups }
-    ensures frame { (fields.new.open_claims ≡ fields.old.open_claims) × (fields.new.states ≡ fields.old.states) × (fields.new.sensors ≡ fields.old.sensors) × (fields.new.outbox ≡ fields.old.outbox) × (fields.new.reading ≡ fields.old.reading) × (fields.new.closed ≡ fields.old.closed) × (fields.new.claims ≡ fields.old.claims) }
+    ensures frame { (fields.new.open_claims ≡ fields.old.open_claims)
+        × (fields.new.states ≡ fields.old.states) × (fields.new.sensors ≡ fields.old.sensors)
+        × (fields.new.outbox ≡ fields.old.outbox) × (fields.new.reading ≡ fields.old.reading)
+        × (fields.new.closed ≡ fields.old.closed) × (fields.new.claims ≡ fields.old.claims) }
 {
     let links = graph.links.as_slice();
     for message in messages {

@@ -1,4 +1,4 @@
-use Rattle.pt_fixed_order_laws.proofs.Going.{links_stay_free}
+use Rattle.pt_fixed_order_laws.proofs.SoFar.{links_stay_free}
 use Rattle.pt_fixed_order_laws.proofs.laws.links_stay_free.Goals as goal
 
 pub returns : goal.returns

@@ -1,4 +1,4 @@
-use Rattle.pt_fixed_order_laws.proofs.Going.{visits_end}
+use Rattle.pt_fixed_order_laws.proofs.SoFar.{visits_end}
 use Rattle.pt_fixed_order_laws.proofs.laws.visits_end.Goals as goal
 
 pub returns : goal.returns

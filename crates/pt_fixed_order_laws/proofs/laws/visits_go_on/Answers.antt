@@ -1,4 +1,4 @@
-use Rattle.pt_fixed_order_laws.proofs.Going.{visits_go_on}
+use Rattle.pt_fixed_order_laws.proofs.SoFar.{visits_go_on}
 use Rattle.pt_fixed_order_laws.proofs.laws.visits_go_on.Goals as goal
 
 pub returns : goal.returns

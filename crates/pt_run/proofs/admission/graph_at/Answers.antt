@@ -1,5 +1,5 @@
 use Rattle.std.proofs.Common.{rules, ◌∷◌, [], Ok, Err, Some, subst, sym}
-use Rattle.pt_io.specs.Calls.{Reading, reading}
+use Rattle.pt_io.specs.Calls.{SourceCall, reading}
 use Rattle.pt_run.specs.Asks.{AsksAlone}
 use Rattle.pt_run.proofs.Asks.{alone_asks}
 use Rattle.pt_graph.specs.GraphOf.{graph_of}
@@ -19,7 +19,7 @@ returns-in-Ok-read_graph-clause-graph g c =
 
 pub returns-in-Err-Failed-clause-refused : goal.returns-in-Err-Failed-clause-refused
 returns-in-Err-Failed-clause-refused g c =
-    let r : Reading = reading g.S.Source c.args.source.now c.fetch.new.self in
+    let r : SourceCall = reading g.S.Source c.args.source.now c.fetch.new.self in
     let asked : Asks (g.S.Source.asked c.args.source.now) (g.S.Source.asked c.fetch.new.self) (c.args.name.now ∷ []) = search rules in
     let rose : Rose (g.S.Source.faults c.args.source.now) (g.S.Source.faults c.fetch.new.self) = search rules in
     graph_unread (g.S.Source.contents c.args.source.now) c.args.blocks.now.listed.items c.args.name.now r (record { asked = asked; rose = rose })
@@ -28,7 +28,7 @@ pub returns-clause-refused : goal.returns-clause-refused
 returns-clause-refused g c =
     let blocks = c.args.blocks.now.listed.items in
     let contents = g.S.Source.contents c.args.source.now in
-    let r : Reading = reading g.S.Source c.args.source.now c.fetch.new.self in
+    let r : SourceCall = reading g.S.Source c.args.source.now c.fetch.new.self in
     subst (λ f. RefusesAsDue f r (λ a. AfterFile contents blocks c.args.name.now a (λ g. ⊥))) (sym c.fault_of_graph.ensures)
     (graph_fails contents blocks c.args.name.now r c.in-Err.fault (λ other.
     of_content (graph_of blocks) 1048577 (graph_of-fetched blocks) (contents c.args.name.now) c.in-Ok.bytes.items (Err c.in-Err.fault) c.in-Ok.ensures.bytes (rw c.as_slice.ensures.value at (c.in-Err.ensures.graph other))))

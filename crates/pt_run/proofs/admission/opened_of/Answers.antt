@@ -1,6 +1,6 @@
 use Rattle.std.proofs.Common.{◌≡◌, ◌∙◌, ◌++◌, [], Some, ap, inr, refl, subst, sym}
 use Rattle.std.specs.Arc.{arc_value}
-use Rattle.pt_io.specs.Calls.{Reading, reading}
+use Rattle.pt_io.specs.Calls.{SourceCall, reading}
 use Rattle.pt_types.specs.declared.graph.Graph.{Graph}
 use Rattle.pt_offsets.specs.Plans.{IsAdmitted, Parts}
 use Rattle.pt_sensors.specs.Asked.{Asks, sensor_files}
@@ -16,7 +16,7 @@ pub returns-in-Err-clause-fault : goal.returns-in-Err-clause-fault
 returns-in-Err-clause-fault g c =
     let plan : Parts = arc_value c.args.plan.now in
     let graph : c.graph.result.now ≡ plan.graph = c.graph.ensures.value ∙ ap (λ (p : Parts). p.graph) c.deref.ensures in
-    let r : Reading = reading g.S.Source c.args.source.now c.recorded.new.source in
+    let r : SourceCall = reading g.S.Source c.args.source.now c.recorded.new.source in
     inr (c.in-Err.fault, c.fault_of_rows.ensures, subst (λ (h : Graph). CauseOfRows Refused c.in-Err.fault (g.S.Source.contents c.args.source.now) h [] r) graph c.in-Err.ensures.fault)
 
 pub returns-in-Err-clause-asks : goal.returns-in-Err-clause-asks

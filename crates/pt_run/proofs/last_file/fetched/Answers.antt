@@ -1,6 +1,6 @@
 use Rattle.std.proofs.Common.{rules, ◌≡◌, ◌∷◌, ◌∙◌, [], Some, ap, inr, subst, sym}
 use Rattle.std.specs.Arc.{arc_value}
-use Rattle.pt_io.specs.Calls.{Contents, Reading, reading}
+use Rattle.pt_io.specs.Calls.{Contents, SourceCall, reading}
 use Rattle.pt_io.specs.Causes.{Rose}
 use Rattle.pt_types.specs.declared.graph.Graph.{Graph}
 use Rattle.pt_offsets.specs.Plans.{IsAdmitted, Parts}
@@ -21,7 +21,7 @@ returns-in-Err-clause-refused g c =
     let plan : Parts = arc_value c.args.plan.now in
     let graph : c.graph.result.now ≡ plan.graph = c.graph.ensures.value ∙ ap (λ (p : Parts). p.graph) c.deref.ensures in
     let admitted = subst IsAdmitted c.deref.ensures c.graph.ensures.admitted in
-    let r : Reading = reading g.S.Source c.args.source.now c.recorded.new.source in
+    let r : SourceCall = reading g.S.Source c.args.source.now c.recorded.new.source in
     subst (λ f. RefusesAsDue f r (IsUnread c.args.last c.args.name.now contents plan.graph)) (sym c.fault_of_rows.ensures)
     (no_rows contents plan c.graph.result.now (λ a p rows. RefusedWith (unread_of c.args.last) a × LastFails plan.graph [] c.args.name.now a.read) admitted graph c.in-Err.fault r c.in-Err.ensures.fault)
 
@@ -32,7 +32,7 @@ returns-in-Err-Failed-clause-refused g c =
     let name = c.args.name.now in
     let graph : c.graph.result.now ≡ plan.graph = c.graph.ensures.value ∙ ap (λ (p : Parts). p.graph) c.deref.ensures in
     let admitted = subst IsAdmitted c.deref.ensures c.graph.ensures.admitted in
-    let r : Reading = reading g.S.Source c.args.source.now c.fetch.new.self in
+    let r : SourceCall = reading g.S.Source c.args.source.now c.fetch.new.self in
     let one : Asks (g.S.Source.asked c.recorded.new.source) (g.S.Source.asked c.fetch.new.self) (name ∷ []) = search rules in
     let rose : Rose (g.S.Source.faults c.recorded.new.source) (g.S.Source.faults c.fetch.new.self) = search rules in
     let fails : LastFails plan.graph [] name r =

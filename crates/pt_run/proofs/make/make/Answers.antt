@@ -1,6 +1,6 @@
 use Rattle.std.proofs.Common.{rules, ◌∙◌, ap, List, ℕ}
 use Rattle.std.specs.Prelude.{string_bytes}
-use Rattle.pt_io.specs.Calls.{Writing, writing}
+use Rattle.pt_io.specs.Calls.{SinkCall, writing}
 use Rattle.pt_io.specs.Causes.{AppendsPart, Rose}
 use Rattle.pt_run.specs.Making.{IsMadeRun}
 use Rattle.pt_run.specs.Written.{Leaves}
@@ -13,7 +13,7 @@ returns-clause-notes g c =
 
 pub returns-then-is_err-clause-due : goal.returns-then-is_err-clause-due
 returns-then-is_err-clause-due g c =
-    let w : Writing = writing g.K.Sink c.args.out.now c.put_text.new.out in
+    let w : SinkCall = writing g.K.Sink c.args.out.now c.put_text.new.out in
     let text : List ℕ = string_bytes c.in-Ok.summary in
     let made : IsMadeRun c.args.number c.in-Ok.field-0.platforms.items text = search rules in
     let rose : Rose w.before w.now = search rules in

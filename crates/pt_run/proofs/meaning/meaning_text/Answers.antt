@@ -1,4 +1,4 @@
-use Rattle.pt_io.specs.Calls.{Reading, reading}
+use Rattle.pt_io.specs.Calls.{SourceCall, reading}
 use Rattle.pt_run.specs.Asks.{AsksOver}
 use Rattle.std.proofs.Common.{List, subst, Some, [], sym}
 use Rattle.std.specs.Prelude.{string_bytes}
@@ -13,13 +13,13 @@ use Rattle.pt_run.proofs.meaning.meaning_text.Goals as goal
 
 pub returns-clause-due : goal.returns-clause-due
 returns-clause-due g c =
-    let r : Reading = reading g.S.Source c.args.source.now c.recorded.new.source in
+    let r : SourceCall = reading g.S.Source c.args.source.now c.recorded.new.source in
     read_due (string_bytes {Z = Global}) c.meaning_tables.result (g.S.Source.contents c.args.source.now) c.args.graph.now r (rows_for c.in-Ok.sensors.items) c.in-Ok.ensures.rows
     (subst (λ (xs : List SensorRows). AnswersAsDue (string_bytes {Z = Global}) c.meaning_tables.result r (IsMeantBy c.args.graph.now (rows_for xs))) c.as_slice.ensures.value (c.meaning_tables.ensures r))
 
 pub returns-clause-asks : goal.returns-clause-asks
 returns-clause-asks g c =
-    let r : Reading = reading g.S.Source c.args.source.now c.recorded.new.source in
+    let r : SourceCall = reading g.S.Source c.args.source.now c.recorded.new.source in
     meant_asks c.args.graph.now (rows_for c.in-Ok.sensors.items) r (g.S.Source.asked c.args.source.now) (g.S.Source.asked c.recorded.new.source) c.in-Ok.ensures.asks_all (string_bytes {Z = Global}) c.meaning_tables.result
     (subst (λ (xs : List SensorRows). AnswersAsDue (string_bytes {Z = Global}) c.meaning_tables.result r (IsMeantBy c.args.graph.now (rows_for xs))) c.as_slice.ensures.value (c.meaning_tables.ensures r))
 
@@ -30,5 +30,5 @@ returns-in-Err-clause-asks g c =
 
 pub returns-in-Err-clause-due : goal.returns-in-Err-clause-due
 returns-in-Err-clause-due g c =
-    let r : Reading = reading g.S.Source c.args.source.now c.recorded.new.source in
+    let r : SourceCall = reading g.S.Source c.args.source.now c.recorded.new.source in
     λ a is out. rows_due (string_bytes {Z = Global}) Taken c.in-Err.fault (g.S.Source.contents c.args.source.now) c.args.graph.now r (λ a rows. IsMeantBy c.args.graph.now rows a) c.in-Err.ensures.fault a is (subst (λ e. RefusedWith e a) c.fault_of_rows.ensures out)

@@ -1,5 +1,5 @@
 use Rattle.std.proofs.Common.{rules, ◌≡◌, [], inl, inr, refl}
-use Rattle.pt_io.specs.Calls.{Reading, Writing, reading, writing}
+use Rattle.pt_io.specs.Calls.{SourceCall, SinkCall, reading, writing}
 use Rattle.pt_io.specs.Causes.{Appends, AppendsPart, Rose}
 use Rattle.pt_run.proofs.Asks.{from_reported}
 use Rattle.pt_run.specs.Due.{Answer, IsDueTo}
@@ -13,15 +13,15 @@ pub returns-in-Err-clause-due : goal.returns-in-Err-clause-due
 returns-in-Err-clause-due g c =
     let contents = g.S.Source.contents c.args.source.now in
     let blocks = c.args.blocks.now.listed.items in
-    let r : Reading = reading g.S.Source c.args.source.now c.migrated.new.source in
-    let w : Writing = writing g.K.Sink c.args.out.now c.args.out.now in
+    let r : SourceCall = reading g.S.Source c.args.source.now c.migrated.new.source in
+    let w : SinkCall = writing g.K.Sink c.args.out.now c.args.out.now in
     let a : Answer = record { fault = c.refused.result.fault; left = left_by c.refused.result; read = r; wrote = w } in
     reported_due a c.in-Err.fault c.report-fault.result (IsDueTo (migrate c.args.name.now) contents blocks) (has_nothing c.refused.result [] [] c.refused.ensures.left) refl c.refused.ensures.fault c.report-fault.ensures.fault c.in-Err.ensures.due
 
 pub returns-then-is_err-clause-due : goal.returns-then-is_err-clause-due
 returns-then-is_err-clause-due g c =
-    let r : Reading = reading g.S.Source c.args.source.now c.migrated.new.source in
-    let w : Writing = writing g.K.Sink c.args.out.now c.put_text.new.out in
+    let r : SourceCall = reading g.S.Source c.args.source.now c.migrated.new.source in
+    let w : SinkCall = writing g.K.Sink c.args.out.now c.put_text.new.out in
     let o = c.refused-then-is_err.result in
     let rose : Rose (g.K.Sink.faults c.args.out.now) (g.K.Sink.faults c.put_text.new.out) = search rules in
     let part : AppendsPart (g.K.Sink.written c.args.out.now) (g.K.Sink.written c.put_text.new.out) c.in-Ok.text.items = search rules in
@@ -29,8 +29,8 @@ returns-then-is_err-clause-due g c =
 
 pub returns-clause-due : goal.returns-clause-due
 returns-clause-due g c =
-    let r : Reading = reading g.S.Source c.args.source.now c.migrated.new.source in
-    let w : Writing = writing g.K.Sink c.args.out.now c.put_text.new.out in
+    let r : SourceCall = reading g.S.Source c.args.source.now c.migrated.new.source in
+    let w : SinkCall = writing g.K.Sink c.args.out.now c.put_text.new.out in
     let o = c.done.result in
     let none : left_by o ≡ leaves_nothing = search rules in
     let all : Appends (g.K.Sink.written c.args.out.now) (g.K.Sink.written c.put_text.new.out) c.in-Ok.text.items = search rules in

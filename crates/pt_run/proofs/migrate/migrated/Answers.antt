@@ -1,5 +1,5 @@
 use Rattle.std.proofs.Common.{ℕ, List, inl, inr, ⊎_elim}
-use Rattle.pt_io.specs.Calls.{Reading, reading}
+use Rattle.pt_io.specs.Calls.{SourceCall, reading}
 use Rattle.pt_run.specs.declared.fault.Fault.TheVariants.{Memory}
 use Rattle.pt_run.specs.Due.{OnlyPuts, RefusedWith}
 use Rattle.pt_run.specs.Migrating.{IsMigrated}
@@ -15,6 +15,6 @@ returns-in-Err-clause-due g c =
 pub returns-in-Ok-graph_line-clause-due : goal.returns-in-Ok-graph_line-clause-due
 returns-in-Ok-graph_line-clause-due g c =
     let blocks = c.args.blocks.now.listed.items in
-    let r : Reading = reading g.S.Source c.args.source.now c.graph_at.new.source in
+    let r : SourceCall = reading g.S.Source c.args.source.now c.graph_at.new.source in
     λ a is put. ⊎_elim (λ (out : RefusedWith Memory a). inl out) (λ (k : OnlyPuts a (IsMigrated c.in-Ok.graph blocks)). inr (inr (inr (c.in-Ok.graph, c.in-Ok.ensures.graph, k))))
     (text_due (λ (text : List ℕ). text) c.in-Ok-graph_line.line.items r (IsMigrated c.in-Ok.graph blocks) c.in-Ok-graph_line.ensures a is put)

@@ -1,5 +1,5 @@
 use Rattle.std.proofs.Common.{[], ◌∷◌, refl, subst}
-use Rattle.pt_io.specs.Calls.{Contents, Reading, Writing, reading, writing}
+use Rattle.pt_io.specs.Calls.{Contents, SourceCall, SinkCall, reading, writing}
 use Rattle.pt_types.specs.declared.graph.Graph.{Graph}
 use Rattle.pt_run.specs.Due.{Answer, IsReplayed, UnlessMemory}
 use Rattle.pt_run.specs.Texts.{left_by}
@@ -14,8 +14,8 @@ use Rattle.pt_run.proofs.replay.replay.Goals as goal
 pub returns-in-Ok-clause-due : goal.returns-in-Ok-clause-due
 returns-in-Ok-clause-due g c =
     let contents = g.S.Source.contents c.args.source.now in
-    let r : Reading = reading g.S.Source c.graph_at.new.source c.replay_graph.new.source in
-    let w : Writing = writing g.K.Sink c.args.out.now c.replay_graph.new.out in
+    let r : SourceCall = reading g.S.Source c.graph_at.new.source c.replay_graph.new.source in
+    let w : SinkCall = writing g.K.Sink c.args.out.now c.replay_graph.new.out in
     let left : Leaves = left_by c.replay_graph.result in
     let a : Answer = record { fault = c.replay_graph.result.fault; left = left; read = r; wrote = w } in
     replay_on_file contents c.args.blocks.now.listed.items c.args.name.now c.in-Ok.graph c.in-Ok.ensures.graph c.replay_graph.result.fault left
@@ -30,9 +30,9 @@ returns-in-Ok-clause-asks g c =
 
 pub returns-in-Ok-clause-notes : goal.returns-in-Ok-clause-notes
 returns-in-Ok-clause-notes g c =
-    let r : Reading = reading g.S.Source c.graph_at.new.source c.replay_graph.new.source in
-    let w : Writing = writing g.K.Sink c.args.out.now c.replay_graph.new.out in
-    let notes : Writing = writing g.E.Sink c.args.notes.now c.replay_graph.new.notes in
+    let r : SourceCall = reading g.S.Source c.graph_at.new.source c.replay_graph.new.source in
+    let w : SinkCall = writing g.K.Sink c.args.out.now c.replay_graph.new.out in
+    let notes : SinkCall = writing g.E.Sink c.args.notes.now c.replay_graph.new.notes in
     let past = replay_past (g.S.Source.contents c.graph_at.new.source) c.in-Ok.graph [] (record { fault = c.replay_graph.result.fault; left = left_by c.replay_graph.result; read = r; wrote = w }) c.args.air.now c.args.log c.replay_graph.ensures.due in
     reported_file paced_run c.replay_graph.result.fault c.replay_graph.result.misses c.replay_graph.result.platforms.items (g.S.Source.contents c.args.source.now) c.args.blocks.now.listed.items c.args.name.now c.in-Ok.graph notes c.in-Ok.ensures.graph past.0 c.replay_graph.ensures.notes
 
@@ -40,8 +40,8 @@ pub returns-in-Err-clause-due : goal.returns-in-Err-clause-due
 returns-in-Err-clause-due g c =
     let contents = g.S.Source.contents c.args.source.now in
     let blocks = c.args.blocks.now.listed.items in
-    let r : Reading = reading g.S.Source c.args.source.now c.graph_at.new.source in
-    let w : Writing = writing g.K.Sink c.args.out.now c.args.out.now in
+    let r : SourceCall = reading g.S.Source c.args.source.now c.graph_at.new.source in
+    let w : SinkCall = writing g.K.Sink c.args.out.now c.args.out.now in
     let a : Answer = record { fault = c.refused.result.fault; left = left_by c.refused.result; read = r; wrote = w } in
     graph_reported contents blocks c.args.name.now a (λ z. IsReplayed c.args.air.now c.args.log contents z (c.args.name.now ∷ []) a) (has_nothing c.refused.result [] [] c.refused.ensures.left) refl c.in-Err.fault c.report-fault.result c.refused.ensures.fault c.report-fault.ensures.fault c.in-Err.ensures.refused
 

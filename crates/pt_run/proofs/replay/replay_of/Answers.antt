@@ -1,6 +1,6 @@
-use Rattle.std.proofs.Common.{◌∷◌, [], Some, ap, inl, subst, sym}
+use Rattle.std.proofs.Common.{◌∷◌, [], Some, subst, sym}
 use Rattle.std.specs.Arc.{arc_value}
-use Rattle.pt_io.specs.Calls.{Reading, reading}
+use Rattle.pt_io.specs.Calls.{SourceCall, reading}
 use Rattle.pt_offsets.specs.Plans.{Parts}
 use Rattle.pt_run.specs.Asks.{AsksOver}
 use Rattle.pt_run.proofs.Asks.{memory_asked, outcome_asks, whole_asks}
@@ -9,7 +9,7 @@ use Rattle.pt_run.proofs.replay.replay_of.Goals as goal
 
 pub returns-in-Err-clause-stopped : goal.returns-in-Err-clause-stopped
 returns-in-Err-clause-stopped g c =
-    let r : Reading = reading g.S.Source c.args.source.now c.read_inputs.new.source in
+    let r : SourceCall = reading g.S.Source c.args.source.now c.read_inputs.new.source in
     unread_stops c.in-Err.fault c.with_nothing.result c.args.air.now c.args.log (g.S.Source.contents c.args.source.now) (arc_value c.args.plan.now).graph r c.with_nothing.ensures.fault c.with_nothing.ensures.nothing c.in-Err.ensures.refused
 
 pub returns-in-Err-clause-asks : goal.returns-in-Err-clause-asks
@@ -27,7 +27,7 @@ returns-in-Ok-run_over_air-clause-lines g c =
 
 pub returns-in-Ok-run_over_air-clause-stopped : goal.returns-in-Ok-run_over_air-clause-stopped
 returns-in-Ok-run_over_air-clause-stopped g c =
-    let r : Reading = reading g.S.Source c.args.source.now c.read_inputs.new.source in
+    let r : SourceCall = reading g.S.Source c.args.source.now c.read_inputs.new.source in
     replay_stops_over c.args.air.now c.args.log (g.S.Source.contents c.args.source.now) (arc_value c.args.plan.now) c.in-Ok.inputs.entries.items c.in-Ok.inputs.air c.in-Ok.ensures.recorded
     c.in-Ok-run_over_air.rounds.platforms.items c.in-Ok-run_over_air.rounds.fault c.in-Ok-run_over_air.ensures c.outputs_of.result r c.outputs_of.ensures.stop
 
@@ -41,7 +41,7 @@ returns-in-Ok-run_over_air-clause-asks g c =
 
 pub returns-clause-stopped : goal.returns-clause-stopped
 returns-clause-stopped g c =
-    let r : Reading = reading g.S.Source c.args.source.now c.read_inputs.new.source in
+    let r : SourceCall = reading g.S.Source c.args.source.now c.read_inputs.new.source in
     memory_stops c.with_nothing-in-Err-run_over_air.result c.args.air.now c.args.log (g.S.Source.contents c.args.source.now) (arc_value c.args.plan.now).graph r c.with_nothing-in-Err-run_over_air.ensures.fault c.with_nothing-in-Err-run_over_air.ensures.nothing
 
 pub returns-clause-asks : goal.returns-clause-asks

@@ -1,6 +1,6 @@
 use Rattle.std.proofs.Common.{◌≡◌, [], None, Some, ap, inl, subst, sym}
 use Rattle.std.specs.Arc.{arc_value}
-use Rattle.pt_io.specs.Calls.{Reading, reading}
+use Rattle.pt_io.specs.Calls.{SourceCall, reading}
 use Rattle.pt_io.specs.Clocks.{viewed}
 use Rattle.pt_offsets.specs.Plans.{Parts}
 use Rattle.pt_run.specs.Asks.{AsksOver}
@@ -13,7 +13,7 @@ use Rattle.pt_run.proofs.run.run_plan.Goals as goal
 
 pub returns-in-Err-clause-stopped : goal.returns-in-Err-clause-stopped
 returns-in-Err-clause-stopped g c =
-    let r : Reading = reading g.S.Source c.args.source.now c.opened_of.new.source in
+    let r : SourceCall = reading g.S.Source c.args.source.now c.opened_of.new.source in
     inl (subst (λ f. LacksRows f (g.S.Source.contents c.args.source.now) (arc_value c.args.plan.now) r) (sym c.with_nothing.ensures.fault) c.in-Err.ensures.fault, c.with_nothing.ensures.nothing)
 
 pub returns-in-Err-clause-clocks : goal.returns-in-Err-clause-clocks
@@ -25,13 +25,13 @@ returns-in-Err-clause-asks g c =
 
 pub returns-in-Ok-run_by-clause-ran : goal.returns-in-Ok-run_by-clause-ran
 returns-in-Ok-run_by-clause-ran g c =
-    let r : Reading = reading g.S.Source c.args.source.now c.opened_of.new.source in
+    let r : SourceCall = reading g.S.Source c.args.source.now c.opened_of.new.source in
     (run_of_outcome (g.S.Source.contents c.args.source.now) (read_with c.args.workers c.args.clock (viewed g.C.Clock.readings g.C.Clock.ahead c.args.clocks.now.items) (viewed g.C.Clock.readings g.C.Clock.ahead c.run_by.new.clocks.items)) (arc_value c.args.plan.now) c.args.log
     c.in-Ok.platforms.items c.in-Ok-run_by.rounds.platforms.items c.in-Ok-run_by.rounds.fault c.outputs_of.result r c.in-Ok.ensures.opened c.in-Ok-run_by.ensures.outcome c.outputs_of.ensures.output c.outputs_of.ensures.stop).0
 
 pub returns-in-Ok-run_by-clause-stopped : goal.returns-in-Ok-run_by-clause-stopped
 returns-in-Ok-run_by-clause-stopped g c =
-    let r : Reading = reading g.S.Source c.args.source.now c.opened_of.new.source in
+    let r : SourceCall = reading g.S.Source c.args.source.now c.opened_of.new.source in
     (run_of_outcome (g.S.Source.contents c.args.source.now) (read_with c.args.workers c.args.clock (viewed g.C.Clock.readings g.C.Clock.ahead c.args.clocks.now.items) (viewed g.C.Clock.readings g.C.Clock.ahead c.run_by.new.clocks.items)) (arc_value c.args.plan.now) c.args.log
     c.in-Ok.platforms.items c.in-Ok-run_by.rounds.platforms.items c.in-Ok-run_by.rounds.fault c.outputs_of.result r c.in-Ok.ensures.opened c.in-Ok-run_by.ensures.outcome c.outputs_of.ensures.output c.outputs_of.ensures.stop).1
 

@@ -1,5 +1,5 @@
 use Rattle.std.proofs.Common.{[], ◌∷◌, refl, subst}
-use Rattle.pt_io.specs.Calls.{Contents, Reading, Writing, reading, writing}
+use Rattle.pt_io.specs.Calls.{Contents, SourceCall, SinkCall, reading, writing}
 use Rattle.pt_io.specs.Clocks.{viewed}
 use Rattle.pt_run.specs.Due.{Answer, IsDueFor, UnlessMemory}
 use Rattle.pt_run.specs.Clocks.{read_for}
@@ -15,8 +15,8 @@ use Rattle.pt_run.proofs.top.run_file.Goals as goal
 pub returns-in-Ok-clause-due : goal.returns-in-Ok-clause-due
 returns-in-Ok-clause-due g c =
     let contents = g.S.Source.contents c.args.source.now in
-    let r : Reading = reading g.S.Source c.graph_at.new.source c.run_command.new.source in
-    let w : Writing = writing g.K.Sink c.args.out.now c.run_command.new.out in
+    let r : SourceCall = reading g.S.Source c.graph_at.new.source c.run_command.new.source in
+    let w : SinkCall = writing g.K.Sink c.args.out.now c.run_command.new.out in
     let left : Leaves = left_over c.run_command.result c.args.command (viewed g.C.Clock.readings g.C.Clock.ahead c.args.clocks.now.items) (viewed g.C.Clock.readings g.C.Clock.ahead c.run_command.new.clocks.items) in
     let a : Answer = record { fault = c.run_command.result.fault; left = left; read = r; wrote = w } in
     command_on_file contents c.args.blocks.now.listed.items c.args.name.now c.in-Ok.graph c.in-Ok.ensures.graph c.run_command.result.fault left
@@ -31,9 +31,9 @@ returns-in-Ok-clause-asks g c =
 
 pub returns-in-Ok-clause-notes : goal.returns-in-Ok-clause-notes
 returns-in-Ok-clause-notes g c =
-    let r : Reading = reading g.S.Source c.graph_at.new.source c.run_command.new.source in
-    let w : Writing = writing g.K.Sink c.args.out.now c.run_command.new.out in
-    let notes : Writing = writing g.E.Sink c.args.notes.now c.run_command.new.notes in
+    let r : SourceCall = reading g.S.Source c.graph_at.new.source c.run_command.new.source in
+    let w : SinkCall = writing g.K.Sink c.args.out.now c.run_command.new.out in
+    let notes : SinkCall = writing g.E.Sink c.args.notes.now c.run_command.new.notes in
     let left : Leaves = left_over c.run_command.result c.args.command (viewed g.C.Clock.readings g.C.Clock.ahead c.args.clocks.now.items) (viewed g.C.Clock.readings g.C.Clock.ahead c.run_command.new.clocks.items) in
     let past = command_past (g.S.Source.contents c.graph_at.new.source) c.in-Ok.graph [] (record { fault = c.run_command.result.fault; left = left; read = r; wrote = w }) c.args.command c.run_command.ensures.due in
     reported_file c.args.command c.run_command.result.fault c.run_command.result.misses c.run_command.result.platforms.items (g.S.Source.contents c.args.source.now) c.args.blocks.now.listed.items c.args.name.now c.in-Ok.graph notes c.in-Ok.ensures.graph past.0 c.run_command.ensures.notes
@@ -42,8 +42,8 @@ pub returns-in-Err-clause-due : goal.returns-in-Err-clause-due
 returns-in-Err-clause-due g c =
     let contents = g.S.Source.contents c.args.source.now in
     let blocks = c.args.blocks.now.listed.items in
-    let r : Reading = reading g.S.Source c.args.source.now c.graph_at.new.source in
-    let w : Writing = writing g.K.Sink c.args.out.now c.args.out.now in
+    let r : SourceCall = reading g.S.Source c.args.source.now c.graph_at.new.source in
+    let w : SinkCall = writing g.K.Sink c.args.out.now c.args.out.now in
     let views = viewed g.C.Clock.readings g.C.Clock.ahead c.args.clocks.now.items in
     let a : Answer = record { fault = c.refused.result.fault; left = left_over c.refused.result c.args.command views views; read = r; wrote = w } in
     graph_reported contents blocks c.args.name.now a (λ z. IsDueFor c.args.command contents z (c.args.name.now ∷ []) a) (has_nothing c.refused.result (read_for c.args.command views) (read_for c.args.command views) c.refused.ensures.left) refl c.in-Err.fault c.report-fault.result c.refused.ensures.fault c.report-fault.ensures.fault c.in-Err.ensures.refused

@@ -1,15 +1,15 @@
 use Rattle.std.proofs.Common.{◌++◌, sym, ap, subst}
-use Rattle.pt_turn.specs.declared.claim_step.Ending.{Ending}
+use Rattle.pt_turn.specs.declared.claim_step.TurnEnd.{TurnEnd}
 use Rattle.pt_turn.specs.Steps.{took_late, turn_of}
 use Rattle.pt_turn.specs.Fields.State.{state_of}
 use Rattle.pt_turn.specs.Faults.{IsFaultOf}
 use Rattle.pt_turn.proofs.Lateness.{turn_late}
 use Rattle.pt_turn.proofs.made_turn.make.Goals as goal
 
-pub keep_last-requires-clause-late : goal.keep_last-requires-clause-late
-keep_last-requires-clause-late g c =
+pub keep_last-progress-requires-clause-late : goal.keep_last-progress-requires-clause-late
+keep_last-progress-requires-clause-late g c =
     let made = c.turn-ending.ensures.made in
-    λ e. turn_late c.args.plan.now.graph g.basis.level g.basis.platform (state_of c.args.fields.now g.basis.taken) (state_of c.turn-ending.new.fields (g.basis.taken ++ c.turn-ending.new.lists.taken.items)) (turn_of c.args.reading c.args.dones.now c.turn-ending.new.lists) (took_late c.turn-ending.result) (ap took_late e) made.turn
+    λ e. turn_late c.args.setup.now.plan.now.graph g.basis.level g.basis.platform (state_of c.args.progress.now.fields g.basis.taken) (state_of c.turn-ending.new.fields (g.basis.taken ++ c.turn-ending.new.lists.taken.items)) (turn_of c.args.reading c.args.dones.now c.turn-ending.new.lists) (took_late c.turn-ending.result) (ap took_late e) made.turn
 
 pub returns-in-On-clause-kept : goal.returns-in-On-clause-kept
 returns-in-On-clause-kept g c = record {
@@ -17,7 +17,7 @@ returns-in-On-clause-kept g c = record {
   ending = c.turn-ending.result;
   made = c.turn-ending.ensures.made;
   full = c.turn-ending.ensures.full;
-  names = subst (λ (ending : Ending). IsFaultOf c.args.plan.now.graph c.args.fields.now.reading c.turn-ending.new.lists.taken.items ending c.args.fault.now) (sym c.in-On.is) c.requires.1.1.1.0;
+  names = subst (λ (ending : TurnEnd). IsFaultOf c.args.setup.now.plan.now.graph c.args.progress.now.fields.reading c.turn-ending.new.lists.taken.items ending c.args.progress.now.fault) (sym c.in-On.is) c.requires.1.1.1.0;
   turns = c.keep.ensures.turns;
   tasks = c.keep.ensures.tasks;
 }
@@ -28,7 +28,7 @@ returns-in_default-clause-kept g c = record {
   ending = c.turn-ending.result;
   made = c.turn-ending.ensures.made;
   full = c.turn-ending.ensures.full;
-  names = c.keep_last.ensures.fault;
-  turns = c.keep_last.ensures.turns;
-  tasks = c.keep_last.ensures.tasks;
+  names = c.keep_last-progress.ensures.fault;
+  turns = c.keep_last-progress.ensures.turns;
+  tasks = c.keep_last-progress.ensures.tasks;
 }

@@ -13,7 +13,7 @@ use Rattle.pt_turn.specs.declared.state.fields.Fields.{Fields}
 use Rattle.pt_turn.specs.Fields.State.{busy_in, left_in, state_of}
 use Rattle.pt_turn.specs.Posts.Posted.{ArePosted, picked}
 use Rattle.pt_turn.specs.Takes.Taken.{Arrive, NeverTakes}
-use Rattle.pt_turn.specs.declared.claim_step.Ending.{Ending}
+use Rattle.pt_turn.specs.declared.claim_step.TurnEnd.{TurnEnd}
 use Rattle.pt_turn.specs.declared.steps.Lists.{Lists}
 use Rattle.pt_turn.specs.Claiming.{HasClaimed}
 use Rattle.pt_turn.specs.Steps.{HasRoom, IsFront, IsGround, IsMade, NoneSeenBefore}
@@ -22,7 +22,7 @@ use Rattle.pt_causality.specs.Branches.{AreBranches}
 use Rattle.pt_turn.proofs.steps.turn.Goals as goal
 
 pub posts-requires-clause-wired : goal.posts-requires-clause-wired
-posts-requires-clause-wired g c = subst IsWired (sym c.graph-graph.ensures.value) (wired c.args.plan.now.graph c.graph-graph.ensures.admitted.lawful)
+posts-requires-clause-wired g c = subst IsWired (sym c.graph-graph.ensures.value) (wired c.args.setup.now.plan.now.graph c.graph-graph.ensures.admitted.lawful)
 
 pub posts-requires-clause-never : goal.posts-requires-clause-never
 posts-requires-clause-never g c =
@@ -43,7 +43,7 @@ enter_from-requires-clause-events g c =
 pub takes-late-requires : goal.takes-late-requires
 takes-late-requires g c =
     let gr : Graph = c.graph-graph.result.now in
-    let value : gr ≡ c.args.plan.now.graph = c.graph-graph.ensures.value in
+    let value : gr ≡ c.args.setup.now.plan.now.graph = c.graph-graph.ensures.value in
     let goes_on : IsGround gr g.basis c.args.fields.now = subst (λ z. IsGround z g.basis c.args.fields.now) (sym value) c.requires.1.1.0 in
     let rises : (p : ℕ) → c.args.fields.now.reading ≡ Some p → p ≤ c.args.reading = c.requires.1.1.1.1.1.0 in
     let room : HasRoom gr c.args.fields.now c.args.lists.now c.args.reading (length c.args.dones.now) (length c.args.messages.now) c.args.most = subst (λ z. HasRoom z c.args.fields.now c.args.lists.now c.args.reading (length c.args.dones.now) (length c.args.messages.now) c.args.most) (sym value) c.requires.1.1.1.1.1.1.1.1.1.1.0 in
@@ -52,28 +52,28 @@ takes-late-requires g c =
     let due : length (all_due gr c.args.reading (left_in c.posts.new.fields.sensors.items)) ≡ length (all_due gr c.args.reading (left_in c.args.fields.now.sensors.items)) = ap (λ v. length (all_due gr c.args.reading (left_in v.items))) c.posts.ensures.frame.0 in
     let events : length c.args.messages.now ≤ c.enter_from.new.fields.queue.spare = omega (arith, due, c.posts.ensures.events, c.enter_from.ensures.events, room.events) in
     let kept : vec_len c.args.lists.now.taken + length c.args.messages.now ≤ vec_capacity c.args.lists.now.taken = room.taken in
-    let offsets : AreOffsets gr c.offsets.result.now = subst (λ z. AreOffsets z c.offsets.result.now) (sym value) (subst (AreOffsets c.args.plan.now.graph) (sym c.offsets.ensures.value) c.offsets.ensures.admitted.offsets) in
-    let is_wired : IsWired gr = subst IsWired (sym value) (wired c.args.plan.now.graph c.graph-graph.ensures.admitted.lawful) in
+    let offsets : AreOffsets gr c.offsets.result.now = subst (λ z. AreOffsets z c.offsets.result.now) (sym value) (subst (AreOffsets c.args.setup.now.plan.now.graph) (sym c.offsets.ensures.value) c.offsets.ensures.admitted.offsets) in
+    let is_wired : IsWired gr = subst IsWired (sym value) (wired c.args.setup.now.plan.now.graph c.graph-graph.ensures.admitted.lawful) in
     let arrive : Arrive gr g.basis c.args.messages.now = subst (λ z. Arrive z g.basis c.args.messages.now) (sym value) c.requires.1.1.1.1.1.1.1.0 in
     (c.enter_from.ensures.sound, (is_wired, (offsets, (arrive, (never, (events, kept))))))
 
 pub close-requires-clause-closing : goal.close-requires-clause-closing
-close-requires-clause-closing g c = subst (λ z. IsClosing z c.args.number c.args.closing) (sym c.graph-graph.ensures.value) c.requires.1.1.1.1.0
+close-requires-clause-closing g c = subst (λ z. IsClosing z c.args.setup.now.number c.args.setup.now.closing) (sym c.graph-graph.ensures.value) c.requires.1.1.1.1.0
 
 pub returns-clause-made : goal.returns-clause-made
 returns-clause-made g c =
     let gr : Graph = c.graph-graph.result.now in
-    let value : gr ≡ c.args.plan.now.graph = c.graph-graph.ensures.value in
+    let value : gr ≡ c.args.setup.now.plan.now.graph = c.graph-graph.ensures.value in
     let empty = c.requires.1.1.1.1.1.1.1.1.1.1.1.0 in
     let most = c.requires.1.1.1.1.1.1.1.1.0 in
     let few : c.args.fields.now.claims ≤ gr.claims = subst (λ (z : Graph). c.args.fields.now.claims ≤ z.claims) (sym value) c.requires.1.1.1.1.1.1.1.1.1.0 in
     let rises : (p : ℕ) → c.args.fields.now.reading ≡ Some p → p ≤ c.args.reading = c.requires.1.1.1.1.1.0 in
-    let number : g.basis.platform ≡ c.args.number = c.requires.1.1.1.0 in
+    let number : g.basis.platform ≡ c.args.setup.now.number = c.requires.1.1.1.0 in
     let took = c.takes-late.ensures.took in
     let all : List OnLink = g.basis.taken ++ c.takes-late.new.kept.items in
     let before : Fields = record c.takes-late.new.fields { reading = Some c.args.reading } in
     let after : Fields = c.claim_unless-ending.new.fields in
-    let ending : Ending = c.claim_unless-ending.result in
+    let ending : TurnEnd = c.claim_unless-ending.result in
     let lists : Lists = record { posted = c.posts.new.kept; rows = c.enter_from.new.kept; taken = c.takes-late.new.kept; claimed = c.claim_unless-ending.new.tasks } in
     let same : before.claims ≡ c.args.fields.now.claims = c.takes-late.ensures.frame.6 ∙ c.enter_from.ensures.frame.5 ∙ c.posts.ensures.frame.3 in
     let claimed : HasClaimed gr c.args.reading c.args.most before after c.args.lists.now.claimed.items lists.claimed.items c.takes-late.result ending = subst (λ z. HasClaimed z c.args.reading c.args.most before after c.args.lists.now.claimed.items lists.claimed.items c.takes-late.result ending) (sym value) c.claim_unless-ending.ensures.claimed in
@@ -102,7 +102,7 @@ returns-clause-made g c =
 pub returns-clause-full : goal.returns-clause-full
 returns-clause-full g c =
     let claimed = c.claim_unless-ending.ensures.claimed in
-    shows_end c.args.plan.now.graph c.args.reading (record c.takes-late.new.fields { reading = Some c.args.reading }) c.claim_unless-ending.new.fields c.close.new.fields c.takes-late.result c.claim_unless-ending.result
+    shows_end c.args.setup.now.plan.now.graph c.args.reading (record c.takes-late.new.fields { reading = Some c.args.reading }) c.claim_unless-ending.new.fields c.close.new.fields c.takes-late.result c.claim_unless-ending.result
     c.close.ensures.frame.5 c.close.ensures.frame.0 c.close.ensures.frame.1 (λ on. let k = (claimed.claimed on).count in omega (arith, k)) claimed.ends
 
 pub posts-requires-clause-branches : goal.posts-requires-clause-branches

@@ -12,7 +12,7 @@ use Rattle.pt_queue.specs.Groups.{AreGroups}
 use Rattle.pt_turn.proofs.claim.claiming.claim.Goals as goal
 
 pub overflow_add-fields : goal.overflow_add-fields
-overflow_add-fields c = omega (arith, c.requires.claims, c.recall_admitted.ensures.lawful.few_claims)
+overflow_add-fields c = omega (arith, c.requires.claims, c.show_admitted.ensures.lawful.few_claims)
 
 pub returns-clause-task : goal.returns-clause-task
 returns-clause-task c =

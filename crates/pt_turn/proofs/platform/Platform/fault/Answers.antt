@@ -15,7 +15,7 @@ returns-clause-runs c =
     subst IsRunning c.self.view_is (record {
       admitted = p.admitted;
       rows = p.fit;
-      legal = ran_is_legal v.plan.graph (level_at v) v.number (rows_at v) v.turns (state_at v) c.self.inside.fault (wired v.plan.graph p.admitted.lawful) p.admitted.levels p.fit p.ran;
+      legal = ran_is_legal v.plan.graph (level_at v) v.number (rows_at v) v.turns (state_at v) c.self.inside.progress.fault (wired v.plan.graph p.admitted.lawful) p.admitted.levels p.fit p.ran;
     })
 
 pub returns-clause-read : goal.returns-clause-read
@@ -26,4 +26,4 @@ returns-clause-on_time c none =
     let p = c.self.invariant in
     let v = view_of c.self.inside in
     subst (λ (v : PlatformView). LegalOnTime v.plan.graph (level_at v) v.number (opened v.plan.graph v.number (rows_at v)) v.turns (state_at v)) c.self.view_is
-    (ran_in_time v.plan.graph (level_at v) v.number (rows_at v) v.turns (state_at v) c.self.inside.fault (wired v.plan.graph p.admitted.lawful) p.admitted.levels p.fit p.ran none)
+    (ran_in_time v.plan.graph (level_at v) v.number (rows_at v) v.turns (state_at v) c.self.inside.progress.fault (wired v.plan.graph p.admitted.lawful) p.admitted.levels p.fit p.ran none)

@@ -16,16 +16,16 @@ returns-then-not-is_empty c =
       λ e. absurd (false≢true e),
       λ is.
           let none : c.args.self.now.outbox ≡ [] = no_messages c.args.self.now.outbox is.all_went in
-          let empty : length p.fields.outbox.items ≡ 0 = ap length (ap (λ (v : PlatformView). v.outbox) c.self.view_is ∙ none) in
-          absurd (false≢true (sym c.if-not-is_empty.true ∙ (c.is_empty.ensures ∙ eq-eqb (length p.fields.outbox.items) 0 empty))),
+          let empty : length p.progress.fields.outbox.items ≡ 0 = ap length (ap (λ (v : PlatformView). v.outbox) c.self.view_is ∙ none) in
+          absurd (false≢true (sym c.if-not-is_empty.true ∙ (c.is_empty.ensures ∙ eq-eqb (length p.progress.fields.outbox.items) 0 empty))),
     )
 
 pub returns : goal.returns
 returns c =
     let p : Inside = c.self.inside in
-    let len : length p.fields.outbox.items ≡ 0 = eqb-true (length p.fields.outbox.items) 0 (sym c.is_empty.ensures ∙ c.if-not-is_empty.false) in
-    let empty : p.fields.outbox.items ≡ [] = no_members p.fields.outbox.items len in
+    let len : length p.progress.fields.outbox.items ≡ 0 = eqb-true (length p.progress.fields.outbox.items) 0 (sym c.is_empty.ensures ∙ c.if-not-is_empty.false) in
+    let empty : p.progress.fields.outbox.items ≡ [] = no_members p.progress.fields.outbox.items len in
     let graph : c.graph.result.now ≡ platform_graph p = c.graph.ensures.value ∙ ap (λ (plan : Parts). plan.graph) c.deref.ensures in
-    let ended : (c.have_ended.result ≡ true) ↔ HaveEnded (platform_graph p) p.number p.history.turns = subst (λ (g : Graph). (c.have_ended.result ≡ true) ↔ HaveEnded g p.number p.history.turns) graph c.have_ended.ensures in
+    let ended : (c.have_ended.result ≡ true) ↔ HaveEnded (platform_graph p) p.number p.progress.history.turns = subst (λ (g : Graph). (c.have_ended.result ≡ true) ↔ HaveEnded g p.number p.progress.history.turns) graph c.have_ended.ensures in
     subst (λ (v : PlatformView). (c.have_ended.result ≡ true) ↔ IsFinished v.plan.graph v.number (state_at v)) c.self.view_is
     (λ e. record { closed = c.if-not-self.false; all_went = λ l. ap (on_link l) empty; ends = ended.0 e }, λ is. ended.1 is.ends)

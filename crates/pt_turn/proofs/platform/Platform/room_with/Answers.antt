@@ -22,8 +22,8 @@ pub invariant_of-self-2 : goal.invariant_of-self-2
 invariant_of-self-2 c =
     let p : Inside = c.self.inside in
     let m = c.make_room.ensures in
-    let enough : AreEnough (platform_graph p) p.fields (raised_to p.fields.reading c.args.room.reading) c.args.room c.in-Some.needs =
-    subst (λ (plan : Parts). count_due plan.graph (raised_to p.fields.reading c.args.room.reading) p.fields ≤ c.args.rows → AreEnough plan.graph p.fields (raised_to p.fields.reading c.args.room.reading) c.args.room c.in-Some.needs) c.deref.ensures (c.in-Some.ensures (raised_to p.fields.reading c.args.room.reading))
+    let enough : AreEnough (platform_graph p) p.progress.fields (raised_to p.progress.fields.reading c.args.room.reading) c.args.room c.in-Some.needs =
+    subst (λ (plan : Parts). count_due plan.graph (raised_to p.progress.fields.reading c.args.room.reading) p.progress.fields ≤ c.args.rows → AreEnough plan.graph p.progress.fields (raised_to p.progress.fields.reading c.args.room.reading) c.args.room c.in-Some.needs) c.deref.ensures (c.in-Some.ensures (raised_to p.progress.fields.reading c.args.room.reading))
     (subst (λ (v : PlatformView). length (all_due v.plan.graph (raised_to v.reading c.args.room.reading) (left_in v.sensors)) ≤ c.args.rows) (sym {A = PlatformView} c.self.view_is) c.requires.rows) in
     let room : Option Room = c.set.new.self in
     is_wider p c.make_room.new.fields c.make_room.new.history c.make_room.new.lists room c.self.invariant m.fields m.history m.lists

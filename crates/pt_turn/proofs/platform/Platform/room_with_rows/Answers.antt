@@ -12,9 +12,9 @@ pub room_with-requires : goal.room_with-requires
 room_with-requires c =
     let p : Inside = c.self.inside in
     let graph : c.graph.result.now ≡ platform_graph p = c.graph.ensures.value ∙ ap (λ (plan : Parts). plan.graph) c.deref.ensures in
-    let count : c.in-Some.rows ≡ length (all_due (platform_graph p) (raised_to p.fields.reading c.args.reading) (left_in p.fields.sensors.items)) =
+    let count : c.in-Some.rows ≡ length (all_due (platform_graph p) (raised_to p.progress.fields.reading c.args.reading) (left_in p.progress.fields.sensors.items)) =
     c.in-Some.ensures
     ∙ ap (λ (g : Graph). length (all_due g c.raised_to-raised.result (left_in c.as_slice.result.now))) graph
     ∙ ap (λ r. length (all_due (platform_graph p) r (left_in c.as_slice.result.now))) c.raised_to-raised.ensures
-    ∙ ap (λ (ss : List Sensor). length (all_due (platform_graph p) (raised_to p.fields.reading c.args.reading) (left_in ss))) c.as_slice.ensures.value in
+    ∙ ap (λ (ss : List Sensor). length (all_due (platform_graph p) (raised_to p.progress.fields.reading c.args.reading) (left_in ss))) c.as_slice.ensures.value in
     record { rows = subst (λ (v : PlatformView). length (all_due v.plan.graph (raised_to v.reading c.args.reading) (left_in v.sensors)) ≤ c.in-Some.rows) c.self.view_is (omega (arith, count)) }

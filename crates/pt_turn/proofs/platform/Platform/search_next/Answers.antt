@@ -9,4 +9,4 @@ pub returns : goal.returns
 returns c =
     let p : Inside = c.self.inside in
     subst (λ (v : PlatformView). IsNextReading v.plan.graph v.number (state_at v) c.next_reading.result) c.self.view_is
-    (subst (λ (plan : Parts). IsNextReading plan.graph p.number (state_at (view_of p)) c.next_reading.result) c.deref.ensures (c.next_reading.ensures (messages_of p.history.turns)))
+    (subst (λ (plan : Parts). IsNextReading plan.graph p.number (state_at (view_of p)) c.next_reading.result) c.deref.ensures (c.next_reading.ensures (messages_of p.progress.history.turns)))

@@ -8,15 +8,15 @@ use Rattle.pt_turn.proofs.platform.Platform.went.Goals as goal
 
 pub unreachable-requires : goal.unreachable-requires
 unreachable-requires c =
-    let none : on_link c.args.link c.self.inside.fields.outbox.items ≡ [] = c.in_default.ensures.first in
+    let none : on_link c.args.link c.self.inside.progress.fields.outbox.items ≡ [] = c.in_default.ensures.first in
     let empty : length (on_link c.args.link c.args.self.now.outbox) ≡ 0 = ap length (ap (λ (v : PlatformView). on_link c.args.link v.outbox) (sym {A = PlatformView} c.self.view_is) ∙ none) in
     omega (arith, empty, c.requires.waits)
 
 gone : (c : goal.After-send) → Went c.self.inside c.args.link (record { link = c.args.link; message = c.in-Some.message }) c.pop.new.self c.send.new.self
 gone c =
     let p : Inside = c.self.inside in
-    let begun : 0 < length p.history.turns = subst (λ (v : PlatformView). 0 < length v.turns) (sym {A = PlatformView} c.self.view_is) c.requires.begun in
-    let few : length (on_link c.args.link (last_sent p.history.turns)) < 64 = subst (λ (v : PlatformView). length (on_link c.args.link (last_sent v.turns)) < 64) (sym {A = PlatformView} c.self.view_is) c.requires.few in
+    let begun : 0 < length p.progress.history.turns = subst (λ (v : PlatformView). 0 < length v.turns) (sym {A = PlatformView} c.self.view_is) c.requires.begun in
+    let few : length (on_link c.args.link (last_sent p.progress.history.turns)) < 64 = subst (λ (v : PlatformView). length (on_link c.args.link (last_sent v.turns)) < 64) (sym {A = PlatformView} c.self.view_is) c.requires.few in
     went_of p c.args.link c.in-Some.message c.as_slice.result.now c.pop.new.self c.send.new.self c.in-Some.ensures.first c.in-Some.ensures.others c.in-Some.ensures.len c.in-Some.ensures.links c.in-Some.ensures.spare
     c.as_slice.ensures c.send.ensures.turns c.send.ensures.room begun few
 

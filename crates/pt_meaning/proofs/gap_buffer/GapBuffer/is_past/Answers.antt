@@ -1,7 +1,7 @@
 use Rattle.std.proofs.Common.{◌<◌, length, rules}
 use Rattle.pt_meaning.specs.Waiting.{place_cmp}
 use Rattle.pt_meaning.proofs.Lines.{place_total, both_before, rising_back}
-use Rattle.pt_meaning.proofs.line.GapBuffer.is_past.Goals as goal
+use Rattle.pt_meaning.proofs.gap_buffer.GapBuffer.is_past.Goals as goal
 
 pub returns-then-not-is_empty : goal.returns-then-not-is_empty
 returns-then-not-is_empty c = λ before.

@@ -7,9 +7,9 @@ use Rattle.pt_semantics.specs.Closing.{on_link}
 use Rattle.pt_types.specs.Lookups.{platform_of}
 use Rattle.pt_semantics.specs.FixedOrder.{IsOver, Visits, platform_after, put_clock}
 use Rattle.pt_semantics.specs.Readings.{greatest_of, later_of, raised_from, raised_list}
-use Rattle.pt_semantics.specs.Visits.{IsVisit, Made, Together, together_at_start}
+use Rattle.pt_semantics.specs.Visits.{IsVisit, VisitRecord, RunState, run_at_start}
 use Rattle.pt_laws.proofs.Onward.{cases_same}
-use Rattle.pt_fixed_order_laws.specs.Going.{Going, LinksAreFree, LinksStayFree, VisitsEnd, VisitsGoOn, WasTaken, with_reading}
+use Rattle.pt_fixed_order_laws.specs.SoFar.{VisitsUpTo, LinksAreFree, LinksStayFree, VisitsEnd, VisitsGoOn, WasTaken, with_reading}
 
 put_same : (clocks : ℕ → List ℕ) (i : ℕ) (xs : List ℕ) → put_clock clocks i xs i ≡ xs
 put_same clocks i xs = cond-true (i == i) xs (clocks i) (eq-eqb i i refl)
@@ -65,7 +65,7 @@ reads_one clocks i j r here none = (
 )
 
 module _ (g : Graph) (level : ℕ → ℕ) (most : ℕ) where
-  go_on : (i j r : ℕ) (clocks : ℕ → List ℕ) (x y z : Together) (ms : List Made) (m : Made) → Going g level most i clocks x ms j y → m.platform ≡ j → IsVisit g level most (λ l. 64) r y m z → (IsOver g m z → ⊥) → Going g level most i (with_reading clocks j r) x (ms ++ m ∷ []) (platform_after g j) z
+  go_on : (i j r : ℕ) (clocks : ℕ → List ℕ) (x y z : RunState) (ms : List VisitRecord) (m : VisitRecord) → VisitsUpTo g level most i clocks x ms j y → m.platform ≡ j → IsVisit g level most (λ l. 64) r y m z → (IsOver g m z → ⊥) → VisitsUpTo g level most i (with_reading clocks j r) x (ms ++ m ∷ []) (platform_after g j) z
   go_on i j r clocks x y z [] m (here, same, none) at is going =
       let one = reads_one clocks i j r here none in
       (r, [], z, at ∙ here, one.0, subst (λ s. IsVisit g level most (λ l. 64) r s m z) same is, going, (ap (platform_after g) here, refl, one.1))
@@ -78,17 +78,17 @@ module _ (g : Graph) (level : ℕ → ℕ) (most : ℕ) where
         w.first,
         visit,
         on,
-        subst (λ f. Going g level most (platform_after g i) f mid (ms ++ m ∷ []) (platform_after g j) z) (sym w.same) (go_on (platform_after g i) j r (put_clock clocks i later) mid y z ms m rest at is going),
+        subst (λ f. VisitsUpTo g level most (platform_after g i) f mid (ms ++ m ∷ []) (platform_after g j) z) (sym w.same) (go_on (platform_after g i) j r (put_clock clocks i later) mid y z ms m rest at is going),
       )
 
   -- a visit before others
-  begins : (i : ℕ) (clocks : ℕ → List ℕ) (x z : Together) (p m : Made) (ms : List Made) →
-      (r : ℕ) × (later : List ℕ) × (mid : Together) × (p.platform ≡ i) × (clocks i ≡ r ∷ later) × IsVisit g level most (λ l. 64) r x p mid × (IsOver g p mid → ⊥) × Visits g level most (platform_after g i) (put_clock clocks i later) mid (ms ++ m ∷ []) z →
+  begins : (i : ℕ) (clocks : ℕ → List ℕ) (x z : RunState) (p m : VisitRecord) (ms : List VisitRecord) →
+      (r : ℕ) × (later : List ℕ) × (mid : RunState) × (p.platform ≡ i) × (clocks i ≡ r ∷ later) × IsVisit g level most (λ l. 64) r x p mid × (IsOver g p mid → ⊥) × Visits g level most (platform_after g i) (put_clock clocks i later) mid (ms ++ m ∷ []) z →
       Visits g level most i clocks x (p ∷ ms ++ m ∷ []) z
   begins i clocks x z p m [] h = h
   begins i clocks x z p m (q ∷ ms) h = h
 
-  ends : (i j r : ℕ) (clocks : ℕ → List ℕ) (x y z : Together) (ms : List Made) (m : Made) → Going g level most i clocks x ms j y → m.platform ≡ j → IsVisit g level most (λ l. 64) r y m z → IsOver g m z → Visits g level most i (with_reading clocks j r) x (ms ++ m ∷ []) z
+  ends : (i j r : ℕ) (clocks : ℕ → List ℕ) (x y z : RunState) (ms : List VisitRecord) (m : VisitRecord) → VisitsUpTo g level most i clocks x ms j y → m.platform ≡ j → IsVisit g level most (λ l. 64) r y m z → IsOver g m z → Visits g level most i (with_reading clocks j r) x (ms ++ m ∷ []) z
   ends i j r clocks x y z [] m (here, same, none) at is over =
       let one = reads_one clocks i j r here none in
       (r, at ∙ here, one.0, subst (λ s. IsVisit g level most (λ l. 64) r s m z) same is, over, λ k lt. one.1 k)
@@ -120,14 +120,14 @@ raised_with readings j r = fun_ext (λ k. ⊎_elim
 pub visits_go_on : VisitsGoOn
 visits_go_on g level rows most readings j r y z m h at is going = record {
   made = h.made ++ m ∷ [];
-  visits = subst (λ f. Going g level most 0 f (together_at_start g rows) (h.made ++ m ∷ []) (platform_after g j) z) (raised_with readings j r) (go_on g level most 0 j (later_of (greatest_of 0 (readings j)) r) (λ i. raised_list (readings i)) (together_at_start g rows) y z h.made m h.visits at is going);
+  visits = subst (λ f. VisitsUpTo g level most 0 f (run_at_start g rows) (h.made ++ m ∷ []) (platform_after g j) z) (raised_with readings j r) (go_on g level most 0 j (later_of (greatest_of 0 (readings j)) r) (λ i. raised_list (readings i)) (run_at_start g rows) y z h.made m h.visits at is going);
 }
 
 pub visits_end : VisitsEnd
 visits_end g level rows most readings j r y z m h at is over none lt = (
   record {
     made = h.made ++ m ∷ [];
-    visits = subst (λ f. Visits g level most 0 f (together_at_start g rows) (h.made ++ m ∷ []) z) (raised_with readings j r) (ends g level most 0 j (later_of (greatest_of 0 (readings j)) r) (λ i. raised_list (readings i)) (together_at_start g rows) y z h.made m h.visits at is over);
+    visits = subst (λ f. Visits g level most 0 f (run_at_start g rows) (h.made ++ m ∷ []) z) (raised_with readings j r) (ends g level most 0 j (later_of (greatest_of 0 (readings j)) r) (λ i. raised_list (readings i)) (run_at_start g rows) y z h.made m h.visits at is over);
   },
   refl,
 )

@@ -3,7 +3,7 @@ use Rattle.pt_meaning.specs.Front.{TakesOne, is_place_of}
 use Rattle.pt_meaning.specs.Line.{begins_with, in_line, IsSortedLine}
 use Rattle.pt_meaning.specs.Waiting.{place_cmp}
 use Rattle.pt_meaning.proofs.Lines.{leaves_first, none_in_front}
-use Rattle.pt_meaning.proofs.line.GapBufferTakeFirst.take_first.Goals as goal
+use Rattle.pt_meaning.proofs.gap_buffer.GapBufferTakeFirst.take_first.Goals as goal
 
 pub returns-then-not-is_first_of-clause-none : goal.returns-then-not-is_first_of-clause-none
 returns-then-not-is_first_of-clause-none c =

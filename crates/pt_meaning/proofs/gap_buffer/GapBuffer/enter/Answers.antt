@@ -1,11 +1,11 @@
 use Rattle.std.proofs.Common.{◌≡◌, ◌∙◌, ◌++◌, ◌∷◌, [], rules, sym, subst, ap, MatchBool}
 use Rattle.std.proofs.lemmas.List.{append_assoc}
-use Rattle.pt_meaning.specs.declared.line.Sent.{Sent}
+use Rattle.pt_meaning.specs.declared.gap_buffer.Sent.{Sent}
 use Rattle.pt_meaning.specs.Front.{Enters}
 use Rattle.pt_meaning.specs.Line.{in_line, AreBefore, IsSortedLine}
 use Rattle.pt_meaning.specs.Waiting.{place_cmp}
 use Rattle.pt_meaning.proofs.Lines.{place_total, enters_between, enters_last, rising_between, rising_last, there_in_both, there_or_not}
-use Rattle.pt_meaning.proofs.line.GapBuffer.enter.Goals as goal
+use Rattle.pt_meaning.proofs.gap_buffer.GapBuffer.enter.Goals as goal
 
 -- it goes to the end
 pub invariant_of-self-then-is_past : goal.invariant_of-self-then-is_past

@@ -2,7 +2,7 @@
 
 ghost use Rattle.std.specs.Prelude.{◌≡◌, ◌++◌, ◌∷◌, [], List, IfOk, IsTrue, MatchBool, MatchOption, None, length};
 ghost use Rattle.pt_meaning.specs.declared.place.EventPlace.{EventPlace};
-ghost use Rattle.pt_meaning.specs.declared.line.Sent.{Sent};
+ghost use Rattle.pt_meaning.specs.declared.gap_buffer.Sent.{Sent};
 ghost use Rattle.pt_meaning.specs.Front.{Enters, IsLeastPlace};
 ghost use Rattle.pt_meaning.specs.Line.{begins_with, in_line, AreBefore, IsSortedLine};
 ghost use Rattle.pt_meaning.specs.Waiting.{place_cmp};
@@ -34,7 +34,7 @@ pub struct GapBuffer {
 
 impl Model for GapBuffer {
     ghost use Rattle.std.specs.Prelude.{List, ◌++◌};
-    ghost use Rattle.pt_meaning.specs.declared.line.Sent.{Sent};
+    ghost use Rattle.pt_meaning.specs.declared.gap_buffer.Sent.{Sent};
     ghost use Rattle.pt_meaning.specs.Line.{IsSortedLine};
     ghost use Rattle.pt_meaning.specs.Waiting.{place_cmp};
 
@@ -59,7 +59,8 @@ impl GapBuffer {
     /// The place of the first event.
     #[inline(always)]
     pub fn first(&self) -> Option<EventPlace>
-        ensures { MatchOption result ((q : EventPlace) → in_line place_cmp self.now q ≡ None) (λ place. IsLeastPlace (in_line place_cmp self.now) place) }
+        ensures { MatchOption result ((q : EventPlace) → in_line place_cmp self.now q ≡ None)
+            (λ place. IsLeastPlace (in_line place_cmp self.now) place) }
     {
         self.head()
     }
@@ -67,7 +68,9 @@ impl GapBuffer {
     /// The place of the first event.
     #[inline(always)]
     fn head(&self) -> Option<EventPlace>
-        ensures first { MatchOption result (self.now ≡ []) (λ place. (sent : Sent) × (rest : List Sent) × (self.now ≡ sent ∷ rest) × (place ≡ sent.place)) }
+        ensures first { MatchOption result (self.now ≡ [])
+            (λ place. (sent : Sent) × (rest : List Sent) × (self.now ≡ sent ∷ rest)
+            × (place ≡ sent.place)) }
         ensures rising { IsSortedLine place_cmp self.now }
     {
         if self.before.is_empty() {
@@ -79,7 +82,9 @@ impl GapBuffer {
 
     /// Adds an event, unless one waits at its place. Returns false, and adds nothing, if it belongs too far from the gap.
     pub fn enter(&mut self, place: EventPlace, value: i64) -> Result<bool, Memory>
-        ensures { IfOk result (λ entered. MatchBool entered (Enters place value (in_line place_cmp self.old) (in_line place_cmp self.new)) (self.new ≡ self.old)) }
+        ensures { IfOk result (λ entered.
+            MatchBool entered (Enters place value (in_line place_cmp self.old)
+            (in_line place_cmp self.new)) (self.new ≡ self.old)) }
     {
         if self.is_past(place) {
             self.after.push_back(Sent { place, value })?;

@@ -1,6 +1,6 @@
 use Rattle.std.specs.Prelude.{option_map}
 use Rattle.std.proofs.Common.{rules, ◌≡◌, ◌∙◌, List, None, Option, Some, ap, refl, subst, sym}
-use Rattle.pt_io.specs.Calls.{Reading, Writing, reading, writing}
+use Rattle.pt_io.specs.Calls.{SourceCall, SinkCall, reading, writing}
 use Rattle.pt_sensors.proofs.Asking.{asks_none}
 use Rattle.pt_io.specs.Clocks.{ClockView, viewed}
 use Rattle.pt_words.specs.Views.{in_words}
@@ -11,8 +11,8 @@ use Rattle.pt_words.specs.Grammar.{Order, order_of, replay, over, audit}
 use Rattle.pt_run.specs.declared.fault.Fault.TheVariants.{Memory}
 use Rattle.pt_run.proofs.Asks.{asked_nothing}
 use Rattle.pt_run.proofs.Made.{asks_for_none, made_number_in, order_is}
-use Rattle.pt_run.proofs.top.run_words.Goals as goal
-use Rattle.pt_run.proofs.top.run_words.Goals.{in-Ok-None, in-Err}
+use Rattle.pt_run.proofs.top.run_order.Goals as goal
+use Rattle.pt_run.proofs.top.run_order.Goals.{in-Ok-None, in-Err}
 
 pub make-requires : goal.make-requires
 make-requires g c = made_number_in c.args.words.now c.in-Ok-Some-Make.field-0 c.in-Ok-Some-Make.number c.in-Ok-Some-Make.workers c.in-Ok-Some-Make.ensures (c.in-Ok-Some-Make.field-0-is ∙ ap Some c.in-Ok-Some-Make.field-0-0-is)
@@ -26,7 +26,7 @@ pub returns-clause-asks : goal.returns-clause-asks
 returns-clause-asks g c =
     let contents = g.S.Source.contents c.args.source.now in
     let asked = g.S.Source.asked c.args.source.now in
-    let r : Reading = record { asked_before = asked; asked_now = asked; before = g.S.Source.faults c.args.source.now; now = g.S.Source.faults c.args.source.now } in
+    let r : SourceCall = record { asked_before = asked; asked_now = asked; before = g.S.Source.faults c.args.source.now; now = g.S.Source.faults c.args.source.now } in
     elim c.match-order.branch [
       | in-Ok-None w ↦
           let none : order_of c.args.words.now ≡ None = search rules in
@@ -39,8 +39,8 @@ returns-clause-asks g c =
 pub returns-in-Ok-Some-Make-clause-due : goal.returns-in-Ok-Some-Make-clause-due
 returns-in-Ok-Some-Make-clause-due g c =
     let contents = g.S.Source.contents c.args.source.now in
-    let r : Reading = reading g.S.Source c.args.source.now c.args.source.now in
-    let w : Writing = writing g.K.Sink c.args.out.now c.make.new.out in
+    let r : SourceCall = reading g.S.Source c.args.source.now c.args.source.now in
+    let w : SinkCall = writing g.K.Sink c.args.out.now c.make.new.out in
     let views : List ClockView = viewed g.C.Clock.readings g.C.Clock.ahead c.args.clocks.now.items in
     let order = order_is c.args.words.now c.in-Ok-Some-Make.field-0 c.in-Ok-Some-Make.number c.in-Ok-Some-Make.workers c.in-Ok-Some-Make.ensures (c.in-Ok-Some-Make.field-0-is ∙ ap Some c.in-Ok-Some-Make.field-0-0-is) in
     subst (λ (o : Option Order). IsDue o contents c.args.blocks.now.listed.items (record { fault = c.make.result.fault; left = left_at c.make.result o views views; read = r; wrote = w })) order (c.make.ensures.due contents r)
@@ -48,8 +48,8 @@ returns-in-Ok-Some-Make-clause-due g c =
 pub returns-in-Ok-Some-Replay-clause-due : goal.returns-in-Ok-Some-Replay-clause-due
 returns-in-Ok-Some-Replay-clause-due g c =
     let contents = g.S.Source.contents c.args.source.now in
-    let r : Reading = reading g.S.Source c.args.source.now c.replay.new.source in
-    let w : Writing = writing g.K.Sink c.args.out.now c.replay.new.out in
+    let r : SourceCall = reading g.S.Source c.args.source.now c.replay.new.source in
+    let w : SinkCall = writing g.K.Sink c.args.out.now c.replay.new.out in
     let views : List ClockView = viewed g.C.Clock.readings g.C.Clock.ahead c.args.clocks.now.items in
     let order : Some (replay c.in-Ok-Some-Replay.graph.now c.in-Ok-Some-Replay.air.now c.in-Ok-Some-Replay.workers c.in-Ok-Some-Replay.log) ≡ order_of c.args.words.now =
     sym (ap (option_map in_words) (c.in-Ok-Some-Replay.field-0-is ∙ ap Some c.in-Ok-Some-Replay.field-0-0-is)) ∙ c.in-Ok-Some-Replay.ensures in
@@ -58,8 +58,8 @@ returns-in-Ok-Some-Replay-clause-due g c =
 pub returns-in-Ok-Some-Over-clause-due : goal.returns-in-Ok-Some-Over-clause-due
 returns-in-Ok-Some-Over-clause-due g c =
     let contents = g.S.Source.contents c.args.source.now in
-    let r : Reading = reading g.S.Source c.args.source.now c.run_file.new.source in
-    let w : Writing = writing g.K.Sink c.args.out.now c.run_file.new.out in
+    let r : SourceCall = reading g.S.Source c.args.source.now c.run_file.new.source in
+    let w : SinkCall = writing g.K.Sink c.args.out.now c.run_file.new.out in
     let views : List ClockView = viewed g.C.Clock.readings g.C.Clock.ahead c.args.clocks.now.items in
     let after : List ClockView = viewed g.C.Clock.readings g.C.Clock.ahead c.run_file.new.clocks.items in
     let order : Some (over c.in-Ok-Some-Over.command c.in-Ok-Some-Over.graph.now) ≡ order_of c.args.words.now =
@@ -69,8 +69,8 @@ returns-in-Ok-Some-Over-clause-due g c =
 pub returns-in-Ok-Some-Audit-clause-due : goal.returns-in-Ok-Some-Audit-clause-due
 returns-in-Ok-Some-Audit-clause-due g c =
     let contents = g.S.Source.contents c.args.source.now in
-    let r : Reading = reading g.S.Source c.args.source.now c.audit.new.source in
-    let w : Writing = writing g.K.Sink c.args.out.now c.audit.new.out in
+    let r : SourceCall = reading g.S.Source c.args.source.now c.audit.new.source in
+    let w : SinkCall = writing g.K.Sink c.args.out.now c.audit.new.out in
     let views : List ClockView = viewed g.C.Clock.readings g.C.Clock.ahead c.args.clocks.now.items in
     let order : Some (audit c.in-Ok-Some-Audit.graph.now c.in-Ok-Some-Audit.log.now) ≡ order_of c.args.words.now =
     sym (ap (option_map in_words) (c.in-Ok-Some-Audit.field-0-is ∙ ap Some c.in-Ok-Some-Audit.field-0-0-is)) ∙ c.in-Ok-Some-Audit.ensures in

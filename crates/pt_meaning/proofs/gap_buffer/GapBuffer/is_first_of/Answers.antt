@@ -1,7 +1,7 @@
 use Rattle.std.proofs.Common.{◌≡◌, ◌∙◌, ◌<◌, length, rules, ap}
 use Rattle.pt_meaning.specs.Line.{begins_with}
 use Rattle.pt_meaning.proofs.Lines.{begins_back, begins_front}
-use Rattle.pt_meaning.proofs.line.GapBuffer.is_first_of.Goals as goal
+use Rattle.pt_meaning.proofs.gap_buffer.GapBuffer.is_first_of.Goals as goal
 
 pub returns-then-is_empty-clause-is : goal.returns-then-is_empty-clause-is
 returns-then-is_empty-clause-is c =
