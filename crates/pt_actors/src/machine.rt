@@ -25,7 +25,8 @@ pub(crate) fn machine(
 ) -> i64
     requires { All (λ (row : MachineRow). IsTrue (guard_is_lawful row.guard)) rows.now }
     ensures state { result ≡ (machine_step state (first_of (row_fits state a) rows.now)).state }
-    ensures outputs { outputs.new ≡ (machine_step state (first_of (row_fits state a) rows.now)).outputs }
+    ensures outputs { outputs.new ≡ (machine_step state
+        (first_of (row_fits state a) rows.now)).outputs }
 {
     match fitting_row(blocks, rows, state, a) {
         Some(row) => {
@@ -67,7 +68,8 @@ fn row_fits(blocks: Option<&Blocks>, row: &MachineRow, state: i64, a: i64) -> bo
 
 /// Whether a row is for this state and its range has the value.
 fn is_for(row: &MachineRow, state: i64, a: i64) -> bool
-    ensures { result ≡ (int_eq row.now.state state && int_le row.now.low a && int_le a row.now.high) }
+    ensures { result ≡ (int_eq row.now.state state && int_le row.now.low a && int_le a
+        row.now.high) }
 {
     row.state == state && row.low <= a && a <= row.high
 }

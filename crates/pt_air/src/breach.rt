@@ -81,7 +81,8 @@ fn lag_at(lags: &[u64], platform: u32) -> u64
 
 /// Whether a message took longer than the delay of its link.
 fn transit_breaks(graph: &Graph, link: usize, time: Time) -> bool
-    ensures { result ≡ unwrap_or (option_map (λ (l : Link). nat_lt l.delay time) (slice_get graph.now.links link)) false }
+    ensures { result ≡ unwrap_or (option_map (λ (l : Link). nat_lt l.delay time)
+        (slice_get graph.now.links link)) false }
 {
     match graph.links.as_slice().get(link) {
         Some(link) => link.delay < time,

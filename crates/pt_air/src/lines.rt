@@ -32,7 +32,8 @@ impl Error for AirFault {}
 
 /// Appends the line for a fault of an air file, as `air: unknown at row 3`.
 pub fn fault_line(text: &mut String, fault: &AirFault) -> Result<(), AllocError>
-    ensures { OnOk result (string_bytes text.new ≡ string_bytes text.old ++ air_fault_line fault.now) }
+    ensures { OnOk result (string_bytes text.new
+        ≡ string_bytes text.old ++ air_fault_line fault.now) }
 {
     write!(text, "air: {fault}\n")
 }

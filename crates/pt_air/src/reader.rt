@@ -35,8 +35,10 @@ const MOST_ROWS: u32 = 100_000;
 /// sender.
 pub fn read_air(alloc: Global, bytes: &[u8], graph: &Graph) -> Result<Air, AirFault>
     ensures air { GivesAir (air_of graph.now bytes.now) result }
-    ensures lengths { IfOk result (λ air. (length air.lags ≡ length graph.now.platforms) × (length air.transits ≡ length graph.now.links)) }
-    ensures numbers { IfOk result (λ air. All (λ n. n ≤ 1000000000000000) air.lags × All (All (λ n. n ≤ 1000000000000000)) air.transits) }
+    ensures lengths { IfOk result (λ air. (length air.lags ≡ length graph.now.platforms)
+        × (length air.transits ≡ length graph.now.links)) }
+    ensures numbers { IfOk result (λ air. All (λ n. n ≤ 1000000000000000) air.lags
+        × All (All (λ n. n ≤ 1000000000000000)) air.transits) }
     ensures bounds { IfOk result (λ air. (air.breach ≡ None) ↔ KeepsBounds graph.now air) }
 {
     let rows = rows_of(alloc, bytes, graph)?;
@@ -85,7 +87,8 @@ fn rows(
     line: &mut ByteRecord,
 ) -> Result<List<AirRow>, AirFault>
     requires { IsPlain (λ r. Some r.now) reader.old }
-    ensures { GivesAir (air_rows_from graph.now 100000 [] (reader_state reader.old) (bytes_left (λ r. Some r.now) reader.old)) result }
+    ensures { GivesAir (air_rows_from graph.now 100000 [] (reader_state reader.old)
+        (bytes_left (λ r. Some r.now) reader.old)) result }
 {
     let mut rows = Vec::new(alloc);
     for number in 1..MOST_ROWS + 1 {

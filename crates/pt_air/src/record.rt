@@ -60,7 +60,8 @@ pub fn row(
 
 /// The three fields of a record, if it has three and is a lag or a transit.
 fn three(line: &ByteRecord) -> Option<Cells<'_>>
-    ensures { option_map (λ c. (c.0.now, c.1.now, c.2.now)) result ≡ option_and_then formed (cells (fields_of line.now)) }
+    ensures { option_map (λ c. (c.0.now, c.1.now, c.2.now)) result
+        ≡ option_and_then formed (cells (fields_of line.now)) }
 {
     match cells(line) {
         Some(cells) if is_lag(cells) || is_transit(cells) => Some(cells),
@@ -82,7 +83,8 @@ fn is_transit(cells: Cells) -> bool
 
 /// The platform or the link that a record names.
 fn subject_of(graph: &Graph, cells: Cells) -> Option<Subject>
-    ensures { result ≡ subject_of graph.now (cells.entry.0.now, cells.entry.1.now, cells.entry.2.now) }
+    ensures { result ≡ subject_of graph.now
+        (cells.entry.0.now, cells.entry.1.now, cells.entry.2.now) }
 {
     if is_lag(cells) {
         Some(Subject::Platform(platform_named(graph, cells.1)?))
@@ -104,7 +106,8 @@ fn platform_named(graph: &Graph, name: &[u8]) -> Option<usize>
 /// The number of the link whose sender has this name.
 fn link_named(graph: &Graph, name: &[u8]) -> Option<usize>
     ensures link { result ≡ link_named graph.now name.now }
-    ensures sender { IsLawful graph.now → is_some result ≡ list_any (is_sender_named name.now) graph.now.actors }
+    ensures sender { IsLawful graph.now →
+        is_some result ≡ list_any (is_sender_named name.now) graph.now.actors }
 {
     link_index(graph, name)
 }

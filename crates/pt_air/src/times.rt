@@ -35,7 +35,8 @@ pub fn transits_of(
     graph: &Graph,
     rows: &[AirRow],
 ) -> Result<Vec<List<u64>>, AllocError>
-    ensures { IfOk result (λ all. all.items ≡ map (row_transits rows.now) (range_with_len 0 (length graph.now.links))) }
+    ensures { IfOk result (λ all. all.items
+        ≡ map (row_transits rows.now) (range_with_len 0 (length graph.now.links))) }
 {
     let mut all = Vec::new(alloc);
     for link in 0..graph.links.as_slice().len() {

@@ -31,7 +31,8 @@ pub(crate) fn verify_block(
         AreVerified plan.now rows before order.old last.old platforms.old →
         IfOk result (λ verified. verified ≡ true →
         AreVerified plan.now rows
-        (before ++ record { line = line; text = block.now } ∷ []) order.new last.new platforms.new) }
+        (before ++ record { line = line; text = block.now } ∷
+        []) order.new last.new platforms.new) }
     ensures none { (rows : ℕ → List Row) (before : List Block) (line : ℕ) →
         AreVerified plan.now rows before order.old last.old platforms.old →
         IfOk result (λ verified. verified ≡ false →

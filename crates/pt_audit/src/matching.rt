@@ -71,7 +71,8 @@ pub(crate) fn is_text_of(
         slice_get history.now.turns (length history.now.turns - 1) ≡ Some turn →
         IfOk result (λ same.
         (same ≡ true) ↔ (block.now ≡ turn_line
-        (platform_name graph.now hints.now.platform) hints.now.first hints.now.last hints.now.count ++ list_lines graph.now turn)) }
+        (platform_name graph.now hints.now.platform) hints.now.first hints.now.last hints.now.count
+        ++ list_lines graph.now turn)) }
 {
     text.clear();
     push_turn_line(

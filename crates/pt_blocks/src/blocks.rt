@@ -133,7 +133,8 @@ impl Blocks {
     /// Adds a block; it gets the next number: the first has 0, and with five shipped blocks the next has 5. After a fault the
     /// names and laws are unchanged.
     pub fn add(&mut self, block: Block) -> Result<(), BlockFault>
-        ensures added { OnOk result (self.new.listed.items ≡ self.old.listed.items ++ named block.name block.function.law ∷ []) }
+        ensures added { OnOk result (self.new.listed.items
+            ≡ self.old.listed.items ++ named block.name block.function.law ∷ []) }
         ensures unchanged { OnErr result (self.new.listed.items ≡ self.old.listed.items) }
         ensures fault { RefusesBlock self.old.listed.items block.name result }
     {
@@ -152,7 +153,8 @@ impl Blocks {
     /// Adds a block with this formula, as `add`.
     pub fn add_formula(&mut self, name: Name, steps: List<Step>) -> Result<(), BlockFault>
         requires { length steps ≤ 64 }
-        ensures added { OnOk result (self.new.listed.items ≡ self.old.listed.items ++ named name (Law.Formula steps) ∷ []) }
+        ensures added { OnOk result (self.new.listed.items
+            ≡ self.old.listed.items ++ named name (Law.Formula steps) ∷ []) }
         ensures unchanged { OnErr result (self.new.listed.items ≡ self.old.listed.items) }
         ensures fault { RefusesBlock self.old.listed.items name result }
     {
@@ -176,14 +178,16 @@ impl Blocks {
     }
 
     fn is_full(&self) -> bool
-        ensures { MatchBool result (length self.now.listed.items ≡ 64) (length self.now.listed.items < 64) }
+        ensures { MatchBool result (length self.now.listed.items ≡ 64)
+            (length self.now.listed.items < 64) }
     {
         self.listed.as_slice().len() >= MOST_BLOCKS
     }
 
     fn keep_function(&mut self, block: Block) -> Result<(), Memory>
         requires { length self.old.listed.items < 64 }
-        ensures added { OnOk result (self.new.listed.items ≡ self.old.listed.items ++ named block.name block.function.law ∷ []) }
+        ensures added { OnOk result (self.new.listed.items
+            ≡ self.old.listed.items ++ named block.name block.function.law ∷ []) }
         ensures unchanged { OnErr result (self.new.listed.items ≡ self.old.listed.items) }
     {
         let Block { name, function } = block;
@@ -195,7 +199,8 @@ impl Blocks {
     fn keep_formula(&mut self, name: Name, steps: List<Step>) -> Result<(), Memory>
         requires room { length self.old.listed.items < 64 }
         requires steps { length steps ≤ 64 }
-        ensures added { OnOk result (self.new.listed.items ≡ self.old.listed.items ++ named name (Law.Formula steps) ∷ []) }
+        ensures added { OnOk result (self.new.listed.items
+            ≡ self.old.listed.items ++ named name (Law.Formula steps) ∷ []) }
         ensures unchanged { OnErr result (self.new.listed.items ≡ self.old.listed.items) }
     {
         let law = Law::Formula(steps);

@@ -46,7 +46,8 @@ fn add_named(
 ) -> Result<(), Memory>
     requires room { length blocks.old.listed.items < 64 }
     requires unnamed { has_block blocks.old.listed.items name.now ≡ false }
-    ensures added { OnOk result (blocks.new.listed.items ≡ blocks.old.listed.items ++ named name.now function.law ∷ []) }
+    ensures added { OnOk result (blocks.new.listed.items
+        ≡ blocks.old.listed.items ++ named name.now function.law ∷ []) }
 {
     let name = Name::new(String::from_str(alloc, name)?);
     match blocks.add(Block { name, function }) {

@@ -11,7 +11,7 @@ use Rattle.atomic_table.specs.Table.{State, Act, Allows, Splits, Joins, opening,
 use Rattle.atomic_table.proofs.Lists.{set_here, set_else, at_set, at_snoc}
 use Rattle.pt_types.specs.declared.firing.Done.{Done}
 use Rattle.pt_types.specs.declared.graph.Graph.{Graph}
-use Rattle.pt_board.specs.declared.rule.Part.{Part}
+use Rattle.pt_board.specs.declared.rule.SlotView.{SlotView}
 use Rattle.pt_board.specs.declared.rule.View.{View}
 use Rattle.pt_board.specs.declared.table.Item.{Item}
 use Rattle.pt_board.specs.declared.table.Item.TheVariants.{Nothing, Placed, Finished}
@@ -25,7 +25,7 @@ pub front : (m : List (ℕ × Item)) (x : ℕ × Item) (r : List (ℕ × Item)) 
 front m x r e = e ∙ ap (λ (q : List (ℕ × Item)). x ∷ q) (sym (ap rest e))
 
 -- the view after one step on a slot
-pub once : (v w : View) (k : ℕ) (p : Part) → length v.parts ≡ 32 → k < 32 → w ≡ with_part v k p → (part k w ≡ p) × SameElse k v w × (w.is_keeper ≡ v.is_keeper) × (length w.parts ≡ 32)
+pub once : (v w : View) (k : ℕ) (p : SlotView) → length v.parts ≡ 32 → k < 32 → w ≡ with_part v k p → (part k w ≡ p) × SameElse k v w × (w.is_keeper ≡ v.is_keeper) × (length w.parts ≡ 32)
 once v w k p len low e = (
   ap (λ (u : View). part k u) e ∙ part_here v k p (subst (λ (m : ℕ). k < m) (sym len) low),
   (λ j ne. ap (λ (u : View). part j u) e ∙ part_else v k j p ne),
@@ -34,11 +34,11 @@ once v w k p len low e = (
 )
 
 module _ (g : Graph) where
-  abbrev Mine : ℕ → Task → ℕ → ℕ → Bool → ℕ → Part → Type 0
+  abbrev Mine : ℕ → Task → ℕ → ℕ → Bool → ℕ → SlotView → Type 0
   Mine number task phase owner busy id p = (m : ℕ) (u : Task) → p.mine ≡ Some (m, u) → (id ≡ owner) × (phase ≡ 2) × (m ≡ number) × (u ≡ task) × (p.holds ≡ busy)
 
   -- a seat that doesn't keep
-  alone : (keeper number : ℕ) (task : Task) (phase owner : ℕ) (busy : Bool) (id : ℕ) (b : Bool) (p : Part) → (b ≡ true → ⊥) → Mine number task phase owner busy id p → SeatFits keeper number task phase owner busy id b p
+  alone : (keeper number : ℕ) (task : Task) (phase owner : ℕ) (busy : Bool) (id : ℕ) (b : Bool) (p : SlotView) → (b ≡ true → ⊥) → Mine number task phase owner busy id p → SeatFits keeper number task phase owner busy id b p
   alone keeper number task phase owner busy id b p off mine = record {
     only = λ q. absurd (off q);
     free = λ q. absurd (off q);
@@ -110,7 +110,7 @@ module _ (g : Graph) where
       )
 
   -- a look changes nothing of the slot
-  looks_at : (s : State Item View) (K : BoardRule g s) (id : ℕ) (v : View) (k : ℕ) (p : Part) → get_elem? s.views id ≡ some v → k < 32 → p.out ≡ (part k v).out → p.mine ≡ (part k v).mine → p.holds ≡ (part k v).holds
+  looks_at : (s : State Item View) (K : BoardRule g s) (id : ℕ) (v : View) (k : ℕ) (p : SlotView) → get_elem? s.views id ≡ some v → k < 32 → p.out ≡ (part k v).out → p.mine ≡ (part k v).mine → p.holds ≡ (part k v).holds
       → BoardRule g (record { words = set s.words k (slice_index s.words k); homes = s.homes; views = set s.views id (with_part v k p) })
   looks_at s K id v k p at low o m h =
       let S = K.slots k low in
@@ -340,7 +340,7 @@ module _ (g : Graph) where
 
   hand_fits : (o : Option Graph) (keeper number : ℕ) (task : Task) (phase owner : ℕ) (busy : Bool) (id k : ℕ) → SeatFits keeper number task phase owner busy id false (part k (hand_first o))
   hand_fits o keeper number task phase owner busy id k =
-      alone keeper number task phase owner busy id false (part k (hand_first o)) (λ q. true≢false (sym q)) (λ m u e. absurd (some_none (m, u) (sym (ap (λ (p : Part). p.mine) (hand_part o k)) ∙ e)))
+      alone keeper number task phase owner busy id false (part k (hand_first o)) (λ q. true≢false (sym q)) (λ m u e. absurd (some_none (m, u) (sym (ap (λ (p : SlotView). p.mine) (hand_part o k)) ∙ e)))
 
   -- the rule with other views, each that of a seat as before or of a new hand
   with_hand : (s : State Item View) (views : List View) (o : Option Graph) → BoardRule g s → ((h : Graph) → o ≡ Some h → h ≡ g) → ((i : ℕ) (u : View) → get_elem? views i ≡ some u → (get_elem? s.views i ≡ some u) ⊎ (hand_first o ≡ u)) → BoardRule g (record s { views = views })
@@ -413,11 +413,11 @@ module _ (g : Graph) where
       content = λ e. (Nothing, home_there 32 k low, (λ x. absurd (omega arith)), (λ x. absurd (omega arith)));
       fits = λ i u e. let h = only_one i u e in subst (λ (y : ℕ × View). SeatFits 0 0 empty_task 0 0 false y.0 y.1.is_keeper (part k y.1)) (λ t. (sym h.0 t, h.1 t)) (record {
         only = λ q. refl;
-        free = λ q z. ap (λ (p : Part). p.out) (first_part k);
+        free = λ q z. ap (λ (p : SlotView). p.out) (first_part k);
         out = λ q z. absurd (z refl);
-        holds_it = λ q z. ap (λ (p : Part). p.holds) (first_part k);
-        holds_none = λ q z. ap (λ (p : Part). p.holds) (first_part k);
-        mine = λ m x z. absurd (some_none (m, x) (sym (ap (λ (p : Part). p.mine) (first_part k)) ∙ z));
+        holds_it = λ q z. ap (λ (p : SlotView). p.holds) (first_part k);
+        holds_none = λ q z. ap (λ (p : SlotView). p.holds) (first_part k);
+        mine = λ m x z. absurd (some_none (m, x) (sym (ap (λ (p : SlotView). p.mine) (first_part k)) ∙ z));
       });
     };
   }

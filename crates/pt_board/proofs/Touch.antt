@@ -8,7 +8,7 @@ use lib.ListN.{get_elem?}
 use Rattle.atomic_table.specs.Table.{State}
 use Rattle.atomic_table.proofs.Lists.{at_set}
 use Rattle.pt_types.specs.declared.graph.Graph.{Graph}
-use Rattle.pt_board.specs.declared.rule.Part.{Part}
+use Rattle.pt_board.specs.declared.rule.SlotView.{SlotView}
 use Rattle.pt_board.specs.declared.rule.View.{View}
 use Rattle.pt_board.specs.declared.table.Item.{Item}
 use Rattle.pt_types.specs.declared.firing.Task.{Task}
@@ -17,14 +17,14 @@ use Rattle.pt_board.specs.Rule.{no_part, part, with_part, Content, SeatFits, Slo
 abbrev pub Home : Type 0
 Home = mathlib.Core.Option.Option Item
 
-pub part_here : (v : View) (k : ℕ) (p : Part) → k < length v.parts → part k (with_part v k p) ≡ p
+pub part_here : (v : View) (k : ℕ) (p : SlotView) → k < length v.parts → part k (with_part v k p) ≡ p
 part_here v k p low = get_or-set_same v.parts k p no_part low
 
-pub part_else : (v : View) (k j : ℕ) (p : Part) → j ≢ k → part j (with_part v k p) ≡ part j v
+pub part_else : (v : View) (k j : ℕ) (p : SlotView) → j ≢ k → part j (with_part v k p) ≡ part j v
 part_else v k j p ne = get_or-set_other v.parts k j p no_part ne
 
 module _ (g : Graph) where
-  pub touch : (s : State Item View) (K : BoardRule g s) (id : ℕ) (v : View) (k n : ℕ) (homes : List Home) (p : Part) (number : ℕ) (task : Task) (phase owner : ℕ) (busy : Bool)
+  pub touch : (s : State Item View) (K : BoardRule g s) (id : ℕ) (v : View) (k n : ℕ) (homes : List Home) (p : SlotView) (number : ℕ) (task : Task) (phase owner : ℕ) (busy : Bool)
       → get_elem? s.views id ≡ some v → k < 32 → length homes ≡ 32 → ((j : ℕ) → j ≢ k → get_elem? homes j ≡ get_elem? s.homes j)
       → n ≡ number * 4 + phase → phase < 4 → (phase ≡ 1 → busy ≡ false) → Content g phase task busy (get_elem? homes k)
       → SeatFits K.keeper number task phase owner busy id v.is_keeper p
@@ -55,7 +55,7 @@ module _ (g : Graph) where
               fits = λ i u e. ⊎_elim
                   (λ (x : (i ≡ id) × (w ≡ u)).
                   subst (λ (y : ℕ × View). SeatFits K.keeper number task phase owner busy y.0 y.1.is_keeper (part k y.1)) (λ t. (sym x.0 t, x.1 t))
-                  (subst (λ (y : Part). SeatFits K.keeper number task phase owner busy id v.is_keeper y) (sym (part_here v k p (subst (λ (m : ℕ). k < m) (sym wide) low))) mine))
+                  (subst (λ (y : SlotView). SeatFits K.keeper number task phase owner busy id v.is_keeper y) (sym (part_here v k p (subst (λ (m : ℕ). k < m) (sym wide) low))) mine))
                   (λ (x : (i ≢ id) × (get_elem? s.views i ≡ some u)). others i u x.0 x.1) (at_set s.views id i w u e);
             }))
             (λ (ne : j ≡ k → ⊥). let S = K.slots j jlow in record {
@@ -71,7 +71,7 @@ module _ (g : Graph) where
               fits = λ i u e. ⊎_elim
                   (λ (x : (i ≡ id) × (w ≡ u)).
                   subst (λ (y : ℕ × View). SeatFits K.keeper S.number S.task S.phase S.owner S.busy y.0 y.1.is_keeper (part j y.1)) (λ t. (sym x.0 t, x.1 t))
-                  (subst (λ (y : Part). SeatFits K.keeper S.number S.task S.phase S.owner S.busy id v.is_keeper y) (sym (part_else v k j p ne)) (S.fits id v at)))
+                  (subst (λ (y : SlotView). SeatFits K.keeper S.number S.task S.phase S.owner S.busy id v.is_keeper y) (sym (part_else v k j p ne)) (S.fits id v at)))
                   (λ (x : (i ≢ id) × (get_elem? s.views i ≡ some u)). S.fits i u x.1) (at_set s.views id i w u e);
             })
             (cases_eq j k);

@@ -11,7 +11,7 @@ use Rattle.std.specs.Prelude.{◌≡◌, ℕ, ◌+◌, ◌*◌, ◌/◌, ◌%◌
 use Rattle.atomic_table.specs.Table.{Step, Me, rest}
 use Rattle.pt_types.specs.declared.firing.Done.{Done}
 use Rattle.pt_types.specs.declared.graph.Graph.{Graph}
-use Rattle.pt_board.specs.declared.rule.Part.{Part}
+use Rattle.pt_board.specs.declared.rule.SlotView.{SlotView}
 use Rattle.pt_board.specs.declared.rule.View.{View}
 use Rattle.pt_board.specs.declared.table.Item.{Item}
 use Rattle.pt_board.specs.declared.table.Item.TheVariants.{Nothing, Placed, Finished}
@@ -21,19 +21,19 @@ use Rattle.pt_board.specs.Rule.{IsResult, part, with_part}
 abbrev pub Seated : Type 0
 Seated = Me Item View
 
-abbrev pub looking : Part → ℕ → Part
+abbrev pub looking : SlotView → ℕ → SlotView
 looking p n = record { out = p.out; mine = p.mine; holds = p.holds; loads = p.loads + 1; lost = p.lost; last = n }
 
-abbrev pub holding : Part → Bool → Part
+abbrev pub holding : SlotView → Bool → SlotView
 holding p b = record { out = p.out; mine = p.mine; holds = b; loads = p.loads; lost = p.lost; last = p.last }
 
-abbrev pub outing : Part → Option (ℕ × Task) → Part
+abbrev pub outing : SlotView → Option (ℕ × Task) → SlotView
 outing p o = record { out = o; mine = p.mine; holds = false; loads = p.loads; lost = p.lost; last = p.last }
 
-abbrev pub with_claim : Part → Option (ℕ × Task) → Bool → Part
+abbrev pub with_claim : SlotView → Option (ℕ × Task) → Bool → SlotView
 with_claim p o b = record { out = p.out; mine = o; holds = b; loads = p.loads; lost = p.lost; last = p.last }
 
-abbrev pub losing : Part → ℕ → Part
+abbrev pub losing : SlotView → ℕ → SlotView
 losing p n = record { out = p.out; mine = p.mine; holds = p.holds; loads = p.loads; lost = p.lost + 1; last = n }
 
 -- the keeper takes the content of a free slot out

@@ -11,7 +11,7 @@ use Rattle.pt_types.specs.declared.firing.Task.{Task}
 use Rattle.pt_types.specs.declared.graph.Graph.{Graph}
 use Rattle.pt_types.specs.Lookups.{kind_of}
 use Rattle.pt_semantics.specs.Firing.{fired}
-use Rattle.pt_board.specs.declared.rule.Part.{Part}
+use Rattle.pt_board.specs.declared.rule.SlotView.{SlotView}
 use Rattle.pt_board.specs.declared.rule.View.{View}
 use Rattle.pt_board.specs.declared.table.Item.{Item}
 use Rattle.pt_board.specs.declared.table.Item.TheVariants.{Nothing, Placed, Finished}
@@ -27,15 +27,15 @@ IsResultOf graph d = (g : Graph) × (graph ≡ Some g) × IsResult g d
 abbrev pub empty_task : Task
 empty_task = record { number = 0; actor = 0; tag = record { time = 0; step = 0 }; inputs = []; state = pos 0 }
 
-abbrev pub no_part : Part
+abbrev pub no_part : SlotView
 no_part = record { out = None; mine = None; holds = false; loads = 0; lost = 0; last = 0 }
 
 -- what a seat knows of slot k
-abbrev pub part : ℕ → View → Part
+abbrev pub part : ℕ → View → SlotView
 part k v = slice_index_or v.parts k no_part
 
 -- the view after the part of slot k changed
-abbrev pub with_part : View → ℕ → Part → View
+abbrev pub with_part : View → ℕ → SlotView → View
 with_part v k p = record { is_keeper = v.is_keeper; graph = v.graph; parts = slice_set v.parts k p }
 
 -- the keeper's view of a board with nothing placed
@@ -48,7 +48,7 @@ Content g phase task busy home = busy ≡ false → (y : Item) × (home ≡ some
 
 -- what a seat knows of a slot agrees with the slot: with its keeper, the number and task of its last placement, its phase,
 -- the hand that claimed it, and whether a seat has taken its content out
-pub record SeatFits (keeper number : ℕ) (task : Task) (phase owner : ℕ) (busy : Bool) (id : ℕ) (is_keeper : Bool) (p : Part) : Type 0 where
+pub record SeatFits (keeper number : ℕ) (task : Task) (phase owner : ℕ) (busy : Bool) (id : ℕ) (is_keeper : Bool) (p : SlotView) : Type 0 where
   pub only : is_keeper ≡ true → id ≡ keeper
   pub free : is_keeper ≡ true → phase ≡ 0 → p.out ≡ None
   pub out : is_keeper ≡ true → phase ≢ 0 → p.out ≡ Some (number, task)

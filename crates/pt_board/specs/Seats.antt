@@ -2,7 +2,7 @@
 use Rattle.std.specs.Prelude.{◌≡◌, ◌≢◌, ℕ, ◌+◌, ◌%◌, ◌⊎◌, true, false, Some, [], length}
 use Rattle.atomic_table.specs.Seated.{TableId}
 use Rattle.atomic_table.specs.declared.shared.Seat.{Seat}
-use Rattle.pt_board.specs.declared.rule.Part.{Part}
+use Rattle.pt_board.specs.declared.rule.SlotView.{SlotView}
 use Rattle.pt_board.specs.declared.rule.View.{View}
 use Rattle.pt_types.specs.declared.firing.Task.{Task}
 use Rattle.pt_board.specs.Rule.{part}
@@ -23,7 +23,7 @@ abbrev pub SameElse : ℕ → View → View → Type 0
 SameElse k v w = (j : ℕ) → j ≢ k → part j w ≡ part j v
 
 -- the seat loaded a word there that isn't ready, or a ready one and then lost the exchange
-abbrev pub UnreadyPart : Part → Part → Type 0
+abbrev pub UnreadyPart : SlotView → SlotView → Type 0
 UnreadyPart p q = (q.loads ≡ p.loads + 1) × (q.mine ≡ p.mine) × (q.holds ≡ p.holds) × (((q.last % 4 ≢ 1) × (q.lost ≡ p.lost)) ⊎ (q.lost ≡ p.lost + 1))
 
 abbrev pub Unready : ℕ → View → View → Type 0

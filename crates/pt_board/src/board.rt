@@ -20,14 +20,18 @@ impl Model for Board {
 
     ghost Value = { BoardView };
 
-    ghost view = { λ b. record { table = b.slots.table.shared.table_id; graph = b.slots.table.shared.key } };
+    ghost view = { λ b. record {
+      table = b.slots.table.shared.table_id;
+      graph = b.slots.table.shared.key;
+    } };
 }
 
 impl Board {
     /// A board with nothing placed, and its keeper.
     pub fn new(alloc: Global, graph: &Graph) -> Result<(Board, Keeper), Memory>
         ensures board { IfOk result (λ r. r.0.graph ≡ graph.now) }
-        ensures keeper { IfOk result (λ r. (r.1.table ≡ r.0.table) × (r.1.knows ≡ keeper_first graph.now) × (r.1.next ≡ 0)) }
+        ensures keeper { IfOk result (λ r. (r.1.table ≡ r.0.table)
+            × (r.1.knows ≡ keeper_first graph.now) × (r.1.next ≡ 0)) }
     {
         let (slots, seat) = Slots::new(alloc, graph)?;
         Ok((Board { slots }, Keeper::new(seat, graph)))

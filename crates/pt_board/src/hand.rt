@@ -77,7 +77,8 @@ impl Board {
     pub fn hand(&self, keeper: &mut Keeper) -> Hand
         requires table { keeper.old.table ≡ self.now.table }
         ensures keeper { keeper.new ≡ keeper.old }
-        ensures hand { (result.table ≡ self.now.table) × (result.knows.graph ≡ keeper.old.knows.graph) }
+        ensures hand { (result.table ≡ self.now.table)
+            × (result.knows.graph ≡ keeper.old.knows.graph) }
         ensures none { HoldsNone result }
     {
         let seat = self.slots.split(&mut keeper.seat);
@@ -98,7 +99,8 @@ impl Board {
     fn claim_from(&self, hand: &mut Hand, slot: usize) -> Option<Ticket>
         requires table { hand.old.table ≡ self.now.table }
         requires slot { slot < 32 }
-        ensures { MatchOption result (FoundNotReady slot hand.old hand.new) (HoldsOneMore hand.old hand.new) }
+        ensures { MatchOption result (FoundNotReady slot hand.old hand.new)
+            (HoldsOneMore hand.old hand.new) }
     {
         let Some((number, task)) = self.slots.claim_at(&mut hand.seat, slot) else {
             return None;
@@ -111,7 +113,8 @@ impl Board {
     /// Returns `None` only if at each slot the hand found the word not ready, or lost the exchange to another hand.
     pub fn claim(&self, hand: &mut Hand) -> Option<Ticket>
         requires table { hand.old.table ≡ self.now.table }
-        ensures claimed { MatchOption result (SawNoneReady hand.old hand.new) (HoldsOneMore hand.old hand.new) }
+        ensures claimed { MatchOption result (SawNoneReady hand.old hand.new)
+            (HoldsOneMore hand.old hand.new) }
     {
         for slot in 0..SLOTS {
             if let Some(ticket) = self.claim_from(hand, slot) {

@@ -66,7 +66,8 @@ impl Board {
     pub fn place(&self, keeper: &mut Keeper, task: Task) -> Result<(), Task>
         requires table { keeper.old.table ≡ self.now.table }
         requires number { keeper.old.next < 2 ^ 62 }
-        ensures placed { MatchResult result (λ _. HasPlaced keeper.old keeper.new task) (λ back. (back ≡ task) × (keeper.new ≡ keeper.old) × IsAllOut keeper.old) }
+        ensures placed { MatchResult result (λ _. HasPlaced keeper.old keeper.new task)
+            (λ back. (back ≡ task) × (keeper.new ≡ keeper.old) × IsAllOut keeper.old) }
     {
         let Some(slot) = first_free(&keeper.places) else {
             return Err(task);
@@ -82,7 +83,8 @@ impl Board {
     fn collect_from(&self, keeper: &mut Keeper, slot: usize) -> Option<Done>
         requires table { keeper.old.table ≡ self.now.table }
         requires slot { slot < 32 }
-        ensures { MatchOption result (LookedAt slot keeper.old keeper.new) (CollectedFrom slot keeper.old keeper.new) }
+        ensures { MatchOption result (LookedAt slot keeper.old keeper.new)
+            (CollectedFrom slot keeper.old keeper.new) }
     {
         let Some(number) = keeper.places[slot] else {
             return None;
@@ -99,7 +101,8 @@ impl Board {
     /// Returns `None` only if the word of each slot that is out was loaded and none was done. Allocates nothing.
     pub fn collect(&self, keeper: &mut Keeper) -> Option<Done>
         requires table { keeper.old.table ≡ self.now.table }
-        ensures collected { MatchOption result (SawNoneDone keeper.old keeper.new) (HasCollected keeper.old keeper.new) }
+        ensures collected { MatchOption result (SawNoneDone keeper.old keeper.new)
+            (HasCollected keeper.old keeper.new) }
     {
         for slot in 0..SLOTS {
             if let Some(done) = self.collect_from(keeper, slot) {

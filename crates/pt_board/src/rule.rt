@@ -3,7 +3,7 @@ use pt_types::{Graph, Task};
 use std::collections::LinkedList;
 
 /// What a seat knows of one slot.
-pub struct Part {
+pub struct SlotView {
     /// For the keeper: the number and the task of the placement that is out there.
     pub out: Option<(u64, Task)>,
     /// For a hand: the number and the task of the placement that it claimed there.
@@ -24,5 +24,5 @@ pub struct View {
     /// The board's graph; `None` if the seat was joined to another.
     pub graph: Option<Graph>,
     /// What it knows of each slot, by the slot's index.
-    pub parts: LinkedList<Part>,
+    pub parts: LinkedList<SlotView>,
 }

@@ -43,7 +43,8 @@ impl Slots {
     /// Free slots for the tasks of a graph, and the keeper's seat.
     pub(crate) fn new(alloc: Global, graph: &Graph) -> Result<(Slots, Seat<Item, View>), AllocError>
         ensures graph { IfOk result (λ r. r.0.table.shared.key ≡ graph.now) }
-        ensures seat { IfOk result (λ r. IsSeatOf r.0.table.shared.table_id r.1 × (r.1.me.0 ≡ keeper_first graph.now)) }
+        ensures seat { IfOk result (λ r. IsSeatOf r.0.table.shared.table_id r.1
+            × (r.1.me.0 ≡ keeper_first graph.now)) }
     {
         let items = nothings(alloc)?;
         let words = [0u64; SLOTS];
@@ -54,15 +55,18 @@ impl Slots {
     /// Splits the seat of a hand off the keeper's.
     pub(crate) fn split(&self, keeper: &mut Seat<Item, View>) -> Seat<Item, View>
         requires { IsSeatOf self.now.table.shared.table_id keeper.old }
-        ensures keeper { (keeper.new.table_id ≡ keeper.old.table_id) × (keeper.new.me ≡ keeper.old.me) }
-        ensures hand { IsSeatOf self.now.table.shared.table_id result × (result.me.0 ≡ hand_first keeper.old.me.0.graph) }
+        ensures keeper { (keeper.new.table_id ≡ keeper.old.table_id)
+            × (keeper.new.me ≡ keeper.old.me) }
+        ensures hand { IsSeatOf self.now.table.shared.table_id result
+            × (result.me.0 ≡ hand_first keeper.old.me.0.graph) }
     {
         self.table.shared.split_seat::<NewHand>(keeper)
     }
 
     /// Joins the seat of a hand to the keeper's.
     pub(crate) fn join(&self, keeper: &mut Seat<Item, View>, hand: Seat<Item, View>)
-        requires { IsSeatOf self.now.table.shared.table_id keeper.old × IsSeatOf self.now.table.shared.table_id hand }
+        requires { IsSeatOf self.now.table.shared.table_id keeper.old
+            × IsSeatOf self.now.table.shared.table_id hand }
         ensures { (keeper.new.table_id ≡ keeper.old.table_id) × (keeper.new.me ≡ keeper.old.me) }
     {
         self.table.shared.join_seat::<Leaves>(keeper, hand);
@@ -76,11 +80,15 @@ impl Slots {
         number: u64,
         task: Task,
     )
-        requires seat { IsSeatOf self.now.table.shared.table_id keeper.old × IsKeeperView keeper.old.me.0 }
-        requires slot { (slot < 32) × ((part slot keeper.old.me.0).out ≡ None) × ((part slot keeper.old.me.0).holds ≡ false) }
+        requires seat { IsSeatOf self.now.table.shared.table_id keeper.old
+            × IsKeeperView keeper.old.me.0 }
+        requires slot { (slot < 32) × ((part slot keeper.old.me.0).out ≡ None)
+            × ((part slot keeper.old.me.0).holds ≡ false) }
         requires number { number < 2 ^ 62 }
-        ensures seat { IsSeatOf self.now.table.shared.table_id keeper.new × IsKeeperView keeper.new.me.0 }
-        ensures out { ((part slot keeper.new.me.0).out ≡ Some (number, task)) × ((part slot keeper.new.me.0).holds ≡ false) }
+        ensures seat { IsSeatOf self.now.table.shared.table_id keeper.new
+            × IsKeeperView keeper.new.me.0 }
+        ensures out { ((part slot keeper.new.me.0).out ≡ Some (number, task))
+            × ((part slot keeper.new.me.0).holds ≡ false) }
         ensures others { SameElse slot keeper.old.me.0 keeper.new.me.0 }
         ensures graph { keeper.new.me.0.graph ≡ keeper.old.me.0.graph }
     {
@@ -93,11 +101,13 @@ impl Slots {
 
     /// Tries to claim the task of a slot. Returns the number of its placement, and the task.
     pub(crate) fn claim_at(&self, hand: &mut Seat<Item, View>, slot: usize) -> Option<(u64, Task)>
-        requires seat { IsSeatOf self.now.table.shared.table_id hand.old × IsHandView hand.old.me.0 }
+        requires seat { IsSeatOf self.now.table.shared.table_id hand.old
+            × IsHandView hand.old.me.0 }
         requires slot { slot < 32 }
         ensures seat { IsSeatOf self.now.table.shared.table_id hand.new × IsHandView hand.new.me.0 }
         ensures none { IfNone result (Unready slot hand.old.me.0 hand.new.me.0) }
-        ensures some { IfSome result (λ t. (t.0 < 2 ^ 62) × ((part slot hand.old.me.0).mine ≡ None) × Holds slot t.0 t.1 hand.new.me.0) }
+        ensures some { IfSome result (λ t. (t.0 < 2 ^ 62) × ((part slot hand.old.me.0).mine ≡ None)
+            × Holds slot t.0 t.1 hand.new.me.0) }
         ensures others { SameElse slot hand.old.me.0 hand.new.me.0 }
         ensures graph { hand.new.me.0.graph ≡ hand.old.me.0.graph }
     {
@@ -129,11 +139,14 @@ impl Slots {
         number: u64,
         done: Done,
     )
-        requires seat { IsSeatOf self.now.table.shared.table_id hand.old × IsHandView hand.old.me.0 }
-        requires claimed { (slot < 32) × (number < 2 ^ 62) × Holds slot number done.task hand.old.me.0 }
+        requires seat { IsSeatOf self.now.table.shared.table_id hand.old
+            × IsHandView hand.old.me.0 }
+        requires claimed { (slot < 32) × (number < 2 ^ 62)
+            × Holds slot number done.task hand.old.me.0 }
         requires done { IsResultOf hand.old.me.0.graph done }
         ensures seat { IsSeatOf self.now.table.shared.table_id hand.new × IsHandView hand.new.me.0 }
-        ensures given { ((part slot hand.new.me.0).mine ≡ None) × ((part slot hand.new.me.0).holds ≡ false) }
+        ensures given { ((part slot hand.new.me.0).mine ≡ None)
+            × ((part slot hand.new.me.0).holds ≡ false) }
         ensures others { SameElse slot hand.old.me.0 hand.new.me.0 }
         ensures graph { hand.new.me.0.graph ≡ hand.old.me.0.graph }
     {
@@ -151,12 +164,20 @@ impl Slots {
         slot: usize,
         number: u64,
     ) -> Option<Done>
-        requires seat { IsSeatOf self.now.table.shared.table_id keeper.old × IsKeeperView keeper.old.me.0 }
+        requires seat { IsSeatOf self.now.table.shared.table_id keeper.old
+            × IsKeeperView keeper.old.me.0 }
         requires slot { (slot < 32) × ((part slot keeper.old.me.0).holds ≡ false) }
-        requires out { (number < 2 ^ 62) × ((task : Task) × ((part slot keeper.old.me.0).out ≡ Some (number, task))) }
-        ensures seat { IsSeatOf self.now.table.shared.table_id keeper.new × IsKeeperView keeper.new.me.0 × ((part slot keeper.new.me.0).holds ≡ false) }
-        ensures some { IfSome result (λ d. ((part slot keeper.old.me.0).out ≡ Some (number, d.task)) × ((g : Graph) → keeper.old.me.0.graph ≡ Some g → IsResult g d) × ((part slot keeper.new.me.0).out ≡ None)) }
-        ensures none { IfNone result (((part slot keeper.new.me.0).out ≡ (part slot keeper.old.me.0).out) × ((part slot keeper.new.me.0).loads ≡ (part slot keeper.old.me.0).loads + 1) × ((part slot keeper.new.me.0).last % 4 ≢ 3)) }
+        requires out { (number < 2 ^ 62)
+            × ((task : Task) × ((part slot keeper.old.me.0).out ≡ Some (number, task))) }
+        ensures seat { IsSeatOf self.now.table.shared.table_id keeper.new
+            × IsKeeperView keeper.new.me.0 × ((part slot keeper.new.me.0).holds ≡ false) }
+        ensures some { IfSome result (λ d. ((part slot keeper.old.me.0).out ≡ Some (number, d.task))
+            × ((g : Graph) → keeper.old.me.0.graph ≡ Some g → IsResult g d)
+            × ((part slot keeper.new.me.0).out ≡ None)) }
+        ensures none { IfNone result (((part slot keeper.new.me.0).out
+            ≡ (part slot keeper.old.me.0).out)
+            × ((part slot keeper.new.me.0).loads ≡ (part slot keeper.old.me.0).loads + 1)
+            × ((part slot keeper.new.me.0).last % 4 ≢ 3)) }
         ensures others { SameElse slot keeper.old.me.0 keeper.new.me.0 }
         ensures graph { keeper.new.me.0.graph ≡ keeper.old.me.0.graph }
     {

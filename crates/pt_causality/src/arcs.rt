@@ -136,10 +136,14 @@ pub fn arcs_by_unit(
 ) -> Result<Vec<Leaving>, AllocError>
     requires groups { (a : ℕ) → groups (kind_of graph.now a) < 2 ^ 32 }
     requires count { numbers.now.count < 2 ^ 32 }
-    requires sources { (e : Edge) → IsIn e wires.now → number_in numbers.now.firsts.items (source graph.now e) < numbers.now.count }
-    requires targets { (e : Edge) → IsIn e wires.now → number_in numbers.now.firsts.items (target graph.now e) < numbers.now.count }
+    requires sources { (e : Edge) → IsIn e wires.now →
+        number_in numbers.now.firsts.items (source graph.now e) < numbers.now.count }
+    requires targets { (e : Edge) → IsIn e wires.now →
+        number_in numbers.now.firsts.items (target graph.now e) < numbers.now.count }
     ensures len { IfOk result (λ v. length v.items ≡ numbers.now.count) }
-    ensures arcs { IfOk result (λ v. (j : ℕ) → j < numbers.now.count → arcs_from v.items j ≡ map (arc_of graph.now numbers.now.firsts.items) (filter (leaves_place graph.now numbers.now.firsts.items j) wires.now)) }
+    ensures arcs { IfOk result (λ v. (j : ℕ) → j < numbers.now.count →
+        arcs_from v.items j ≡ map (arc_of graph.now numbers.now.firsts.items)
+        (filter (leaves_place graph.now numbers.now.firsts.items j) wires.now)) }
 {
     let mut all = none_leaving(alloc, numbers.count)?;
     for wire in wires {

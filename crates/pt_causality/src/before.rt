@@ -78,7 +78,8 @@ fn list_by_row(lists: &mut [Before], row: &DelayRow, unit: Unit)
 
 /// Adds a unit to the list of each unit to which a path leads from it.
 fn list_unit(lists: &mut [Before], numbers: &Numbers, rows: &[DelayRow], unit: Unit)
-    ensures listed { MayBeListed (delay_row_at rows.now (number_in numbers.now.firsts.items unit)) lists.new unit }
+    ensures listed { MayBeListed (delay_row_at rows.now
+        (number_in numbers.now.firsts.items unit)) lists.new unit }
     ensures others { HaveMore lists.old lists.new }
 {
     match rows.get(numbers.of(unit)) {
@@ -90,7 +91,8 @@ fn list_unit(lists: &mut [Before], numbers: &Numbers, rows: &[DelayRow], unit: U
 /// Adds the units of an actor to these lists.
 fn list_actor(lists: &mut [Before], numbers: &Numbers, rows: &[DelayRow], actor: u32)
     requires few { length rows.now ≤ 2048 }
-    ensures listed { (x : Unit) → x.actor ≡ actor → MayBeListed (delay_row_at rows.now (number_in numbers.now.firsts.items x)) lists.new x }
+    ensures listed { (x : Unit) → x.actor ≡ actor →
+        MayBeListed (delay_row_at rows.now (number_in numbers.now.firsts.items x)) lists.new x }
     ensures others { HaveMore lists.old lists.new }
 {
     for group in 0..numbers.groups(actor) {

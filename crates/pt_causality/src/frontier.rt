@@ -38,7 +38,8 @@ impl Model for Frontier {
 
     ghost Value = { Items Item };
 
-    ghost view = { λ f. map (waiting_at f.now) f.ready.items ++ map (λ r. r.0) (heap_items f.later) };
+    ghost view = { λ f. map (waiting_at f.now) f.ready.items
+        ++ map (λ r. r.0) (heap_items f.later) };
 
     ghost invariant = { λ f. IsHeap (λ x y. compared y.0 x.0) (heap_items f.later) };
 }

@@ -37,7 +37,8 @@ impl EdgeLists {
 
     /// Adds an edge at the end of an actor's list; does nothing if there is no such actor.
     pub fn add(&mut self, actor: u32, edge: Edge) -> Result<(), AllocError>
-        ensures { OnOk result (self.new ≡ slice_set self.old actor (slice_index_or self.old actor [] ++ edge ∷ [])) }
+        ensures { OnOk result (self.new ≡ slice_set self.old actor
+            (slice_index_or self.old actor [] ++ edge ∷ [])) }
     {
         if (actor as usize) < self.lists.len() {
             self.lists[actor as usize].push(edge)?;

@@ -51,7 +51,8 @@ pub fn next_edge(incoming: &[List<Edge>], places: &[SearchState], actor: u32) ->
     requires actor { actor < length places.now }
     requires lists { length incoming.now ≡ length places.now }
     requires left { (place_at places.now actor).left ≤ length (into incoming.now actor) }
-    ensures { MatchOption result ((place_at places.now actor).left ≡ 0) (IsNextEdge (place_at places.now actor) (into incoming.now actor)) }
+    ensures { MatchOption result ((place_at places.now actor).left ≡ 0)
+        (IsNextEdge (place_at places.now actor) (into incoming.now actor)) }
 {
     let left = places[actor as usize].left;
     if left == 0 {
@@ -63,7 +64,8 @@ pub fn next_edge(incoming: &[List<Edge>], places: &[SearchState], actor: u32) ->
 /// Sets the mark of an actor.
 pub fn set_mark(places: &mut Vec<SearchState>, actor: u32, mark: SearchMark)
     requires { actor < length places.old.items }
-    ensures { places.new.items ≡ slice_set places.old.items actor (marked mark (place_at places.old.items actor)) }
+    ensures { places.new.items ≡ slice_set places.old.items actor
+        (marked mark (place_at places.old.items actor)) }
 {
     places[actor as usize].mark = mark;
 }
@@ -95,7 +97,8 @@ pub fn look(places: &mut Vec<SearchState>, actor: u32, edge: Edge)
     requires left { 0 < (place_at places.old.items actor).left }
     requires level { (place_at places.old.items edge.from).level + 1 < 2 ^ 32 }
     requires rank { (place_at places.old.items edge.from).rank + 1 < 2 ^ 32 }
-    ensures { places.new.items ≡ slice_set places.old.items actor (looked (place_at places.old.items edge.from) edge (place_at places.old.items actor)) }
+    ensures { places.new.items ≡ slice_set places.old.items actor
+        (looked (place_at places.old.items edge.from) edge (place_at places.old.items actor)) }
 {
     let place = looked(places[edge.from as usize], edge, places[actor as usize]);
     places[actor as usize] = place;

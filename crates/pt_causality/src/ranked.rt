@@ -21,7 +21,8 @@ use std::alloc::{AllocError, Global};
 /// For each actor of a graph, the edges to it that take no time.
 fn incoming_of(alloc: Global, graph: &Graph) -> Result<Vec<List<Edge>>, AllocError>
     requires { IsLawful graph.now }
-    ensures { IfOk result (λ lists. AreIncoming (edges graph.now) (length graph.now.actors) lists.items) }
+    ensures { IfOk result (λ lists. AreIncoming (edges graph.now)
+        (length graph.now.actors) lists.items) }
 {
     let edges = all_edges(alloc, graph)?;
     incoming_edges(alloc, graph.actors.as_slice().len(), edges.as_slice())

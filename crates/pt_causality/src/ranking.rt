@@ -13,7 +13,8 @@ use std::alloc::Global;
 
 /// Returns along the trail: removes its last edge, and gives the actor that it leads to; `None` if the trail is empty.
 fn go_back(trail: &mut Vec<Edge>) -> Option<u32>
-    ensures { MatchOption result (reverse trail.old.items ≡ []) (λ top. WentBack (reverse trail.old.items) top (reverse trail.new.items)) }
+    ensures { MatchOption result (reverse trail.old.items ≡ [])
+        (λ top. WentBack (reverse trail.old.items) top (reverse trail.new.items)) }
 {
     let edge = trail.pop()?;
     Some(edge.to)
@@ -32,9 +33,13 @@ fn step(
     requires few { length incoming.now + 1 < 2 ^ 32 }
     requires joined { AreEdgeLists incoming.now }
     requires walk { IsWalk incoming.now places.old.items top (reverse trail.old.items) }
-    ensures walk { IfOk result (λ next. MatchOption next (Rests incoming.now places.new.items) (λ top. IsWalk incoming.now places.new.items top (reverse trail.new.items))) }
+    ensures walk { IfOk result (λ next.
+        MatchOption next (Rests incoming.now places.new.items)
+        (λ top. IsWalk incoming.now places.new.items top (reverse trail.new.items))) }
     ensures shrinks { OnOk result (steps_left places.new.items < steps_left places.old.items) }
-    ensures keeps { OnOk result ((a : ℕ) → marks_left (place_at places.new.items a).mark ≤ marks_left (place_at places.old.items a).mark) }
+    ensures keeps { OnOk result ((a : ℕ) →
+        marks_left (place_at places.new.items a).mark
+        ≤ marks_left (place_at places.old.items a).mark) }
     ensures ring { IfErr result (MeetsRing incoming.now) }
 {
     let Some(edge) = next_edge(incoming, places.as_slice(), top) else {
@@ -71,7 +76,9 @@ fn finish(
     requires new { (place_at places.old.items root).mark ≡ SearchMark.New }
     ensures rests { OnOk result (Rests incoming.now places.new.items) }
     ensures done { OnOk result ((place_at places.new.items root).mark ≡ SearchMark.Done) }
-    ensures keeps { OnOk result ((a : ℕ) → marks_left (place_at places.new.items a).mark ≤ marks_left (place_at places.old.items a).mark) }
+    ensures keeps { OnOk result ((a : ℕ) →
+        marks_left (place_at places.new.items a).mark
+        ≤ marks_left (place_at places.old.items a).mark) }
     ensures ring { IfErr result (MeetsRing incoming.now) }
 {
     let mut trail = Vec::new(alloc);
@@ -96,7 +103,9 @@ fn visit(
     requires actor { actor < length places.old.items }
     ensures rests { OnOk result (Rests incoming.now places.new.items) }
     ensures done { OnOk result ((place_at places.new.items actor).mark ≡ SearchMark.Done) }
-    ensures keeps { OnOk result ((a : ℕ) → marks_left (place_at places.new.items a).mark ≤ marks_left (place_at places.old.items a).mark) }
+    ensures keeps { OnOk result ((a : ℕ) →
+        marks_left (place_at places.new.items a).mark
+        ≤ marks_left (place_at places.old.items a).mark) }
     ensures ring { IfErr result (MeetsRing incoming.now) }
 {
     match places[actor as usize].mark {

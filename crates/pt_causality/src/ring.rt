@@ -13,7 +13,8 @@ use std::alloc::{AllocError, Global};
 
 /// The actors along the trail from its top, up to the one that the edge leaves.
 fn front_actors(alloc: Global, trail: &[Edge], edge: Edge) -> Result<Vec<u32>, AllocError>
-    ensures { IfOk result (λ actors. actors.items ≡ map (λ (e : Edge). e.from) (front_of edge (reverse trail.now))) }
+    ensures { IfOk result (λ actors. actors.items
+        ≡ map (λ (e : Edge). e.from) (front_of edge (reverse trail.now))) }
 {
     trail
         .iter()
@@ -25,7 +26,8 @@ fn front_actors(alloc: Global, trail: &[Edge], edge: Edge) -> Result<Vec<u32>, A
 
 /// These actors, and the one that the edge leaves.
 fn actors_around(alloc: Global, trail: &[Edge], edge: Edge) -> Result<Vec<u32>, AllocError>
-    ensures { IfOk result (λ actors. actors.items ≡ map (λ (e : Edge). e.from) (front_of edge (reverse trail.now)) ++ edge.from ∷ []) }
+    ensures { IfOk result (λ actors. actors.items
+        ≡ map (λ (e : Edge). e.from) (front_of edge (reverse trail.now)) ++ edge.from ∷ []) }
 {
     let mut actors = front_actors(alloc, trail, edge)?;
     actors.push(edge.from)?;
@@ -57,7 +59,8 @@ pub fn rotate_to_least(numbers: &mut Vec<u32>)
 
 /// The cycle that an edge closes: it leads from an actor on the trail to the top of the trail.
 pub fn ring_at(alloc: Global, trail: &[Edge], edge: Edge) -> CycleFault
-    ensures { (incoming : List (List Edge)) → IsClosedBy incoming (reverse trail.now) edge → MeetsRing incoming result }
+    ensures { (incoming : List (List Edge)) → IsClosedBy incoming (reverse trail.now) edge →
+        MeetsRing incoming result }
 {
     let Ok(mut actors) = actors_around(alloc, trail, edge) else {
         return CycleFault::Memory;

@@ -16,8 +16,10 @@ use std::alloc::{AllocError, Global};
 /// Makes all units pending to which arcs lead from a place at delay `at`, except those that are settled.
 fn reach(frontier: &mut Frontier, row: &DelayRow, at: Delay, arcs: &[Arc]) -> Result<(), AllocError>
     requires small { (at.time < 2 ^ 62) × (at.step < 2 ^ 62) }
-    requires fit { (a : Arc) → IsIn a arcs.now → (a.weight.time ≤ 1000000000000000) × (a.weight.step ≤ 1) }
-    ensures { OnOk result (IsPermutation (map (reached at) (filter (is_open row.now) arcs.now) ++ frontier.old) frontier.new) }
+    requires fit { (a : Arc) → IsIn a arcs.now → (a.weight.time ≤ 1000000000000000)
+        × (a.weight.step ≤ 1) }
+    ensures { OnOk result (IsPermutation
+        (map (reached at) (filter (is_open row.now) arcs.now) ++ frontier.old) frontier.new) }
 {
     for arc in arcs {
         let is_open = row.get(arc.to as usize).is_none();

@@ -14,7 +14,8 @@ pub fn all_rows(alloc: Global, arcs: &[Leaving]) -> Result<Vec<DelayRow>, AllocE
     requires few { length arcs.now ≤ 2048 }
     requires fit { AreFit arcs.now }
     ensures len { IfOk result (λ rows. length rows.items ≡ length arcs.now) }
-    ensures rows { IfOk result (λ rows. (s : ℕ) → s < length arcs.now → HasLeastDelays arcs.now s (delay_row_at rows.items s)) }
+    ensures rows { IfOk result (λ rows. (s : ℕ) → s < length arcs.now →
+        HasLeastDelays arcs.now s (delay_row_at rows.items s)) }
     ensures small { IfOk result (λ rows. (s : ℕ) → IsSmallRow (delay_row_at rows.items s)) }
 {
     let mut rows = Vec::new(alloc);

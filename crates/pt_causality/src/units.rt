@@ -50,7 +50,8 @@ impl Numbers {
 
     /// The number of units of an actor.
     pub fn groups(&self, actor: u32) -> u32
-        ensures { result ≡ first_in self.now.firsts.items (actor + 1) - first_in self.now.firsts.items actor }
+        ensures { result ≡ first_in self.now.firsts.items
+            (actor + 1) - first_in self.now.firsts.items actor }
     {
         self.first(actor as usize + 1)
             .saturating_sub(self.first(actor as usize))

@@ -22,7 +22,8 @@ use std::alloc::{AllocError, Global};
 /// An actuator's claims are all on its platform, in the order of their tags, so nothing is sorted: each becomes a line of
 /// its table as the recorded turns are read.
 pub fn tables_of(alloc: Global, plan: &Plan, platforms: &[Platform]) -> Result<String, AllocError>
-    ensures { IfOk result (λ text. (rows : ℕ → List Row) → HaveFinished plan.now rows platforms.now → AreTables plan.now rows (string_bytes text)) }
+    ensures { IfOk result (λ text. (rows : ℕ → List Row) →
+        HaveFinished plan.now rows platforms.now → AreTables plan.now rows (string_bytes text)) }
 {
     let actors = plan.graph().actors.as_slice();
     let mut tables = ActorTables::new(alloc, actors)?;
@@ -38,7 +39,9 @@ fn push_history(
     actors: &[Actor],
     history: &History,
 ) -> Result<(), AllocError>
-    ensures { (xs : List ActorFiring) → tables.old ≡ texts_from 0 actors.now xs → OnOk result (tables.new ≡ texts_from 0 actors.now (xs ++ map by_task (flat_map (λ turn. turn.claimed) history.now.turns))) }
+    ensures { (xs : List ActorFiring) → tables.old ≡ texts_from 0 actors.now xs →
+        OnOk result (tables.new ≡ texts_from 0 actors.now
+        (xs ++ map by_task (flat_map (λ turn. turn.claimed) history.now.turns))) }
 {
     for number in 0..history.claims() as usize {
         push_claim(tables, actors, history, number)?;
@@ -54,7 +57,10 @@ fn push_claim(
     number: usize,
 ) -> Result<(), AllocError>
     requires { number < length (flat_map (λ turn. turn.claimed) history.now.turns) }
-    ensures { (xs : List ActorFiring) (task : Task) → slice_get (flat_map (λ turn. turn.claimed) history.now.turns) number ≡ Some task → tables.old ≡ texts_from 0 actors.now xs → OnOk result (tables.new ≡ texts_from 0 actors.now (xs ++ by_task task ∷ [])) }
+    ensures { (xs : List ActorFiring) (task : Task) →
+        slice_get (flat_map (λ turn. turn.claimed) history.now.turns) number ≡ Some task →
+        tables.old ≡ texts_from 0 actors.now xs →
+        OnOk result (tables.new ≡ texts_from 0 actors.now (xs ++ by_task task ∷ [])) }
 {
     if !has_table(actors, history.mark(number).actor) {
         return Ok(());

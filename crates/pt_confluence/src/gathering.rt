@@ -27,8 +27,11 @@ use std::alloc::Global;
 /// units of lanes, are joined into one firing. If platform 0 has claimed actor 0 at 50.0 and actor 1 at 80.0, and platform 1
 /// actor 2 at 70.0, the firings are those of actors 0, 2 and 1.
 pub fn gather(alloc: Global, plan: &Plan, platforms: &[Platform]) -> Result<Firings, Memory>
-    ensures meaning { IfOk result (λ firings. (rows : ℕ → List Row) → HaveFinished plan.now rows platforms.now → IsMeaning plan.now.graph (rank_of plan.now.ranks) rows firings) }
-    ensures claimed { IfOk result (λ firings. (rows : ℕ → List Row) → HaveFinished plan.now rows platforms.now → AgreeOnClaims plan.now platforms.now firings) }
+    ensures meaning { IfOk result (λ firings. (rows : ℕ → List Row) →
+        HaveFinished plan.now rows platforms.now →
+        IsMeaning plan.now.graph (rank_of plan.now.ranks) rows firings) }
+    ensures claimed { IfOk result (λ firings. (rows : ℕ → List Row) →
+        HaveFinished plan.now rows platforms.now → AgreeOnClaims plan.now platforms.now firings) }
 {
     let tasks = all_tasks(alloc, platforms)?;
     let mut sorted = references(alloc, tasks.as_slice())?;
@@ -50,7 +53,8 @@ fn all_tasks(alloc: Global, platforms: &[Platform]) -> Result<Vec<Task>, Memory>
 
 /// Appends the tasks claimed in recorded turns.
 fn push_history(tasks: &mut Vec<Task>, history: &History) -> Result<(), Memory>
-    ensures { OnOk result (tasks.new.items ≡ tasks.old.items ++ flat_map (λ turn. turn.claimed) history.now.turns) }
+    ensures { OnOk result (tasks.new.items
+        ≡ tasks.old.items ++ flat_map (λ turn. turn.claimed) history.now.turns) }
 {
     for number in 0..history.claims() as usize {
         tasks.push(history.task(number))?;
@@ -73,7 +77,8 @@ fn references(alloc: Global, tasks: &[Task]) -> Result<Vec<&Task>, Memory>
 
 /// Sorts tasks by tag, rank and actor. Allocates nothing.
 fn sort(ranks: &Ranks, tasks: &mut Vec<&Task>)
-    ensures sorted { IsSortedByKey (λ task. moment_of (rank_of ranks.now) task.now) moment_cmp tasks.new.items }
+    ensures sorted { IsSortedByKey (λ task.
+        moment_of (rank_of ranks.now) task.now) moment_cmp tasks.new.items }
     ensures permutation { IsPermutation tasks.old.items tasks.new.items }
 {
     tasks.sort_unstable_by_key(|task| moment_of(ranks, task));

@@ -25,7 +25,9 @@ pub struct Joining {
 /// The whole firings of sorted tasks: neighbours of one actor and tag are joined.
 pub fn join(alloc: Global, graph: &Graph, tasks: &[&Task]) -> Result<Firings, Memory>
     requires lawful { IsLawful graph.now }
-    ensures { IfOk result (λ firings. firings ≡ map (whole_firing graph.now) (neighbours_joined (map (λ task. task.now) tasks.now))) }
+    ensures { IfOk result (λ firings.
+        firings ≡ map (whole_firing graph.now)
+        (neighbours_joined (map (λ task. task.now) tasks.now))) }
 {
     let mut joining = Joining {
         firings: Firings::new(alloc),
@@ -40,7 +42,8 @@ pub fn join(alloc: Global, graph: &Graph, tasks: &[&Task]) -> Result<Firings, Me
 /// The firings with one more task.
 fn with(joining: Joining, graph: &Graph, task: &Task) -> Result<Joining, Memory>
     requires lawful { IsLawful graph.now }
-    ensures { IfOk result (λ more. (rest : List Task) → made graph.now more rest ≡ made graph.now joining (task.now ∷ rest)) }
+    ensures { IfOk result (λ more. (rest : List Task) →
+        made graph.now more rest ≡ made graph.now joining (task.now ∷ rest)) }
 {
     let Joining { firings, last } = joining;
     let Some(last) = last else {

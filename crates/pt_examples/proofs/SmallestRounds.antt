@@ -23,7 +23,7 @@ use Rattle.pt_semantics.specs.Safe.{NothingSafe}
 use Rattle.pt_semantics.specs.Closing.{CanClose}
 use Rattle.pt_semantics.specs.Entering.{due, after_rows}
 use Rattle.pt_semantics.specs.Paced.{IsPaced, IsCandidate, IsClosing}
-use Rattle.pt_semantics.specs.Visits.{AreFinished, Together, together_at_start, Made}
+use Rattle.pt_semantics.specs.Visits.{AreFinished, RunState, run_at_start, VisitRecord}
 use Rattle.pt_semantics.specs.Rounds.{Makes, Round, IsLeastNext}
 use Rattle.pt_semantics.proofs.Tags.{same_tag-true}
 use Rattle.pt_semantics.proofs.Lookups.{none_some, same_some, or_else_found, when_found, first_of_found}
@@ -195,19 +195,19 @@ abbrev did2 : ℕ → List Turn
 did2 zero = t1 ∷ t2 ∷ []
 did2 (suc i) = []
 
-abbrev x0 : Together
-x0 = together_at_start one rows
+abbrev x0 : RunState
+x0 = run_at_start one rows
 
-abbrev x1 : Together
+abbrev x1 : RunState
 x1 = record { at = at_first; did = did1; on_way = λ l. [] }
 
-abbrev x2 : Together
+abbrev x2 : RunState
 x2 = record { at = at_second; did = did2; on_way = λ l. [] }
 
-abbrev m1 : Made
+abbrev m1 : VisitRecord
 m1 = record { platform = 0; turn = t1; late = false; fault = false }
 
-abbrev m2 : Made
+abbrev m2 : VisitRecord
 m2 = record { platform = 0; turn = t2; late = false; fault = false }
 
 no_link : (x : Link) → None ≡ Some x → ⊥

@@ -63,7 +63,8 @@ fn add_line(
     text: &[u8],
     defined: &mut Vec<Numbered>,
 ) -> Result<(), FileFault>
-    ensures { IsAfterLine line (line_of text.now) (map viewed_line defined.old.items) (map viewed_line defined.new.items) result }
+    ensures { IsAfterLine line (line_of text.now) (map viewed_line defined.old.items)
+        (map viewed_line defined.new.items) result }
 {
     match read_line(alloc, text) {
         Ok(None) => Ok(()),
@@ -74,7 +75,8 @@ fn add_line(
 }
 
 fn add(defined: &mut Vec<Numbered>, numbered: Numbered) -> Result<(), FileFault>
-    ensures added { OnOk result (map viewed_line defined.new.items ≡ map viewed_line defined.old.items ++ viewed_line numbered ∷ []) }
+    ensures added { OnOk result (map viewed_line defined.new.items
+        ≡ map viewed_line defined.old.items ++ viewed_line numbered ∷ []) }
     ensures memory { IfErr result (λ fault. fault ≡ FileFault.Memory) }
 {
     match defined.push(numbered) {

@@ -61,7 +61,8 @@ fn turn(
     steps: &mut Vec<Step>,
     pending: &mut VecDeque<Unfinished>,
 ) -> Result<Result<Expects, Refusal>, AllocError>
-    ensures { OnOk result (IsAfter expects token steps.old.items pending.old.items steps.new.items pending.new.items result) }
+    ensures { OnOk result (IsAfter expects token steps.old.items pending.old.items steps.new.items
+        pending.new.items result) }
 {
     match expects {
         Expects::Value => value(token, steps, pending),
@@ -75,7 +76,8 @@ fn value(
     steps: &mut Vec<Step>,
     pending: &mut VecDeque<Unfinished>,
 ) -> Result<Result<Expects, Refusal>, AllocError>
-    ensures { OnOk result (IsAfter Expects.Value token steps.old.items pending.old.items steps.new.items pending.new.items result) }
+    ensures { OnOk result (IsAfter Expects.Value token steps.old.items pending.old.items
+        steps.new.items pending.new.items result) }
 {
     match token {
         Token::A => put(Step::A, steps),
@@ -112,7 +114,8 @@ fn opening(
     token: Token,
     pending: &mut VecDeque<Unfinished>,
 ) -> Result<Result<Expects, Refusal>, AllocError>
-    ensures { OnOk result (IsAfter (Expects.Opening function) token [] pending.old.items [] pending.new.items result) }
+    ensures { OnOk result (IsAfter (Expects.Opening function) token [] pending.old.items
+        [] pending.new.items result) }
 {
     match token {
         Token::Open => wait(Unfinished::Call(function, 1), pending),
@@ -125,7 +128,8 @@ fn sign(
     steps: &mut Vec<Step>,
     pending: &mut VecDeque<Unfinished>,
 ) -> Result<Result<Expects, Refusal>, AllocError>
-    ensures { OnOk result (IsAfter Expects.Sign token steps.old.items pending.old.items steps.new.items pending.new.items result) }
+    ensures { OnOk result (IsAfter Expects.Sign token steps.old.items pending.old.items
+        steps.new.items pending.new.items result) }
 {
     match token {
         Token::Operator(operator) => operate(operator, steps, pending),
@@ -140,7 +144,9 @@ fn operate(
     steps: &mut Vec<Step>,
     pending: &mut VecDeque<Unfinished>,
 ) -> Result<Result<Expects, Refusal>, AllocError>
-    ensures { OnOk result (IsAfter Expects.Sign (Token.Operator operator) steps.old.items pending.old.items steps.new.items pending.new.items result) }
+    ensures { OnOk result (IsAfter Expects.Sign
+        (Token.Operator operator) steps.old.items pending.old.items steps.new.items
+        pending.new.items result) }
 {
     release(left_level(operator), steps, pending)?;
     if is_test(operator) && is_chained(pending) {
@@ -153,7 +159,8 @@ fn close(
     steps: &mut Vec<Step>,
     pending: &mut VecDeque<Unfinished>,
 ) -> Result<Result<Expects, Refusal>, AllocError>
-    ensures { OnOk result (IsAfter Expects.Sign Token.Close steps.old.items pending.old.items steps.new.items pending.new.items result) }
+    ensures { OnOk result (IsAfter Expects.Sign Token.Close steps.old.items pending.old.items
+        steps.new.items pending.new.items result) }
 {
     release(0, steps, pending)?;
     match pending.pop_front() {
@@ -173,7 +180,8 @@ fn separate(
     steps: &mut Vec<Step>,
     pending: &mut VecDeque<Unfinished>,
 ) -> Result<Result<Expects, Refusal>, AllocError>
-    ensures { OnOk result (IsAfter Expects.Sign Token.Comma steps.old.items pending.old.items steps.new.items pending.new.items result) }
+    ensures { OnOk result (IsAfter Expects.Sign Token.Comma steps.old.items pending.old.items
+        steps.new.items pending.new.items result) }
 {
     release(0, steps, pending)?;
     match pending.pop_front() {
@@ -194,7 +202,8 @@ fn ended(
     steps: &mut Vec<Step>,
     pending: &mut VecDeque<Unfinished>,
 ) -> Result<Result<(), Refusal>, AllocError>
-    ensures { OnOk result (IsEnded expects steps.old.items pending.old.items steps.new.items result) }
+    ensures { OnOk result (IsEnded expects steps.old.items pending.old.items steps.new.items
+        result) }
 {
     match expects {
         Expects::Value => Ok(Err(Refusal::NoValue)),
@@ -218,7 +227,8 @@ fn release(
     steps: &mut Vec<Step>,
     pending: &mut VecDeque<Unfinished>,
 ) -> Result<(), AllocError>
-    ensures steps { OnOk result (steps.new.items ≡ steps.old.items ++ emitted least pending.old.items) }
+    ensures steps { OnOk result (steps.new.items
+        ≡ steps.old.items ++ emitted least pending.old.items) }
     ensures pending { OnOk result (pending.new.items ≡ released least pending.old.items) }
 {
     while let Some(step) = next_released(least, pending) {
@@ -230,8 +240,12 @@ fn release(
 /// The step of what waits first, if it is released; it waits no longer.
 fn next_released(least: u8, pending: &mut VecDeque<Unfinished>) -> Option<Step>
     ensures { MatchOption result
-        ((pending.new.items ≡ pending.old.items) × (released least pending.old.items ≡ pending.old.items) × (emitted least pending.old.items ≡ []))
-        (λ step. (deque_len pending.new + 1 ≡ deque_len pending.old) × (released least pending.old.items ≡ released least pending.new.items) × (emitted least pending.old.items ≡ step ∷ emitted least pending.new.items)) }
+        ((pending.new.items ≡ pending.old.items)
+        × (released least pending.old.items ≡ pending.old.items)
+        × (emitted least pending.old.items ≡ []))
+        (λ step. (deque_len pending.new + 1 ≡ deque_len pending.old)
+        × (released least pending.old.items ≡ released least pending.new.items)
+        × (emitted least pending.old.items ≡ step ∷ emitted least pending.new.items)) }
 {
     match pending.front().copied() {
         Some(Unfinished::Minus) => {

@@ -181,7 +181,8 @@ fn block_of(alloc: Global, listed: &[Named], name: &Word) -> Result<(u32, Law), 
 }
 
 fn law_of(alloc: Global, listed: &[Named], number: Option<usize>) -> Result<Law, AllocError>
-    ensures { IfOk result (λ law. law ≡ unwrap_or (option_and_then (law_at listed.now) number) Least) }
+    ensures { IfOk result (λ law. law
+        ≡ unwrap_or (option_and_then (law_at listed.now) number) Least) }
 {
     match number {
         Some(number) => law_at(alloc, listed, number),
@@ -304,7 +305,8 @@ pub fn links_of<'a>(
 
 /// The pairs, with numbers of platforms.
 pub fn pairs_of(alloc: Global, document: &Document) -> Result<Vec<PairError>, AllocError>
-    ensures { IfOk result (λ v. v.items ≡ map (pair_from document.now.platforms) document.now.pairs) }
+    ensures { IfOk result (λ v. v.items
+        ≡ map (pair_from document.now.platforms) document.now.pairs) }
 {
     let platforms = &document.platforms;
     let pairs = document.pairs.as_slice();

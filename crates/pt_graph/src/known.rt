@@ -62,7 +62,8 @@ fn first_place(
     actors: Option<usize>,
     pairs: Option<usize>,
 ) -> Option<Place>
-    ensures { result ≡ found part.Platform platforms <|> found part.Actor actors <|> found part.Pair pairs }
+    ensures { result ≡ found part.Platform platforms <|> found part.Actor actors <|> found part.Pair
+        pairs }
 {
     found(Part::Platform, platforms)
         .or(found(Part::Actor, actors))
@@ -109,7 +110,8 @@ pub fn unknown_place<'a>(
 }
 
 fn lost_actor(document: &Document) -> Option<usize>
-    ensures { result ≡ position (λ (a : ActorText). not (is_platform document.now.platforms a.platform)) document.now.actors }
+    ensures { result ≡ position (λ (a : ActorText). not
+        (is_platform document.now.platforms a.platform)) document.now.actors }
 {
     let platforms = &document.platforms;
     let actors = document.actors.as_slice();
@@ -119,7 +121,9 @@ fn lost_actor(document: &Document) -> Option<usize>
 }
 
 fn lost_pair(document: &Document) -> Option<usize>
-    ensures { result ≡ position (λ (p : PairText). not (is_platform document.now.platforms p.a && is_platform document.now.platforms p.b)) document.now.pairs }
+    ensures { result ≡ position (λ (p : PairText). not
+        (is_platform document.now.platforms p.a && is_platform document.now.platforms p.b))
+        document.now.pairs }
 {
     let platforms = &document.platforms;
     let pairs = document.pairs.as_slice();
@@ -127,7 +131,8 @@ fn lost_pair(document: &Document) -> Option<usize>
 }
 
 fn lost_wire<'a>(numbers: &BTreeMap<&'a str, usize>, wires: &'a [WireText]) -> Option<usize>
-    ensures { result ≡ first_index (λ (w : WireText). not (is_known (at_name numbers.now) w.from w.to)) wires.now }
+    ensures { result ≡ first_index (λ (w : WireText). not
+        (is_known (at_name numbers.now) w.from w.to)) wires.now }
 {
     for (i, wire) in wires.iter().enumerate() {
         if !is_known(numbers, &wire.from, &wire.to) {
@@ -138,7 +143,8 @@ fn lost_wire<'a>(numbers: &BTreeMap<&'a str, usize>, wires: &'a [WireText]) -> O
 }
 
 fn lost_link<'a>(numbers: &BTreeMap<&'a str, usize>, links: &'a [LinkText]) -> Option<usize>
-    ensures { result ≡ first_index (λ (l : LinkText). not (is_known (at_name numbers.now) l.from l.to)) links.now }
+    ensures { result ≡ first_index (λ (l : LinkText). not
+        (is_known (at_name numbers.now) l.from l.to)) links.now }
 {
     for (i, link) in links.iter().enumerate() {
         if !is_known(numbers, &link.from, &link.to) {

@@ -50,7 +50,8 @@ fn most_wires(version: Version) -> usize
 }
 
 fn has_many_rows(actors: &[ActorText]) -> bool
-    ensures { result ≡ list_any (λ (a : ActorText). nat_lt 64 (machine_row_count a.kind)) actors.now }
+    ensures { result ≡ list_any (λ (a : ActorText). nat_lt 64
+        (machine_row_count a.kind)) actors.now }
 {
     actors.iter().any(|actor| row_count(&actor.kind) > 64)
 }
@@ -65,14 +66,16 @@ fn row_count(kind: &KindText) -> usize
 }
 
 fn has_many_cells(actors: &[ActorText]) -> bool
-    ensures { result ≡ nat_lt 1024 (sum (map (λ (a : ActorText). lane_cell_count a.kind) actors.now)) }
+    ensures { result ≡ nat_lt 1024 (sum
+        (map (λ (a : ActorText). lane_cell_count a.kind) actors.now)) }
 {
     cells_of_all(actors) > 1024
 }
 
 /// The number of cells of all lanes, at most the greatest `usize`.
 fn cells_of_all(actors: &[ActorText]) -> usize
-    ensures { result ≡ min (sum (map (λ (a : ActorText). lane_cell_count a.kind) actors.now)) (2 ^ 64 - 1) }
+    ensures { result ≡ min (sum (map (λ (a : ActorText). lane_cell_count a.kind) actors.now))
+        (2 ^ 64 - 1) }
 {
     let mut total: usize = 0;
     for actor in actors {

@@ -179,7 +179,8 @@ fn whole(
     links: Vec<Link>,
     clock_errors: Vec<PairError>,
 ) -> Graph
-    ensures { result ≡ whole_graph head platforms actors.items wires.items links.items clock_errors.items }
+    ensures { result ≡ whole_graph head platforms actors.items wires.items links.items
+        clock_errors.items }
 {
     Graph {
         until: head.until.unsigned_abs(),

@@ -28,7 +28,8 @@ pub fn read_each<T: Decode>(
 ) -> Result<Listed<T>, Unread>
     ensures ok { IfOk result
         (λ listed. (ds : Items)
-        × (converted of_items (items (value depth) (length reader.old) reader.old) ≡ Some (ds, reader.new))
+        × (converted of_items (items (value depth) (length reader.old) reader.old)
+        ≡ Some (ds, reader.new))
         × (listed ≡ each_from (T.decoded version) 0 ds)) }
     ensures shorter { OnOk result (length reader.new < length reader.old) }
     ensures err { result ≡ Err Unread.NotJson

@@ -48,7 +48,8 @@ pub trait Decode: Drop {
         depth: usize,
     ) -> Result<Option<Self>, Unread>
         ensures ok { IfOk result
-            (λ part. (d : Data) × (converted of_json (value depth reader.old) ≡ Some (d, reader.new))
+            (λ part. (d : Data) × (converted of_json (value depth reader.old)
+            ≡ Some (d, reader.new))
             × (part ≡ decoded version d)) }
         ensures shorter { OnOk result (length reader.new < length reader.old) }
         ensures err { result ≡ Err Unread.NotJson

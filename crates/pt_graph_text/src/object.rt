@@ -33,9 +33,11 @@ pub trait ObjectArrays: Drop {
         depth: usize,
     ) -> Result<Value, Unread>
         ensures ok { IfOk result
-            (λ left. (d : Data) × (converted of_json (value depth reader.old) ≡ Some (d, reader.new))
+            (λ left. (d : Data) × (converted of_json (value depth reader.old)
+            ≡ Some (d, reader.new))
             × (view left ≡ hollow d)
-            × ((ms : Members) → self.old ≡ lists_of version ms → self.new ≡ lists_of version (put key.now d ms))) }
+            × ((ms : Members) → self.old ≡ lists_of version ms →
+            self.new ≡ lists_of version (put key.now d ms))) }
         ensures shorter { OnOk result (length reader.new < length reader.old) }
         ensures err { result ≡ Err Unread.NotJson
             → converted of_json (value depth reader.old) ≡ None };
@@ -58,7 +60,8 @@ pub fn read_object<L: ObjectArrays>(
 ) -> Result<Object<L>, Unread>
     ensures ok { IfOk result
         (λ object. (d : Data) × (converted of_json (value depth reader.old) ≡ Some (d, reader.new))
-        × (view object.left ≡ without_items d) × (object.lists ≡ L.lists_of version (members_in d))) }
+        × (view object.left ≡ without_items d)
+        × (object.lists ≡ L.lists_of version (members_in d))) }
     ensures shorter { OnOk result (length reader.new < length reader.old) }
     ensures err { result ≡ Err Unread.NotJson
         → converted of_json (value depth reader.old) ≡ None }
@@ -92,7 +95,8 @@ fn read_members<L: ObjectArrays>(
         (λ object. (ms : Members)
         × (converted (λ ms. of_members ms no_members)
         (members (value depth) (length reader.old) reader.old) ≡ Some (ms, reader.new))
-        × (view object.left ≡ object_of (hollow_members ms)) × (object.lists ≡ L.lists_of version ms)) }
+        × (view object.left ≡ object_of (hollow_members ms))
+        × (object.lists ≡ L.lists_of version ms)) }
     ensures shorter { OnOk result (length reader.new < length reader.old) }
     ensures err { result ≡ Err Unread.NotJson
         → converted (λ ms. of_members ms no_members)

@@ -75,7 +75,8 @@ pub fn value_from(
     reader: &mut Reader<'_>,
     depth: usize,
 ) -> Result<Value, Unread>
-    ensures ok { IfOk result (λ v. converted of_json (value depth (token_of token.entry ∷ reader.old))
+    ensures ok { IfOk result (λ v. converted of_json
+        (value depth (token_of token.entry ∷ reader.old))
         ≡ Some (view v, reader.new)) }
     ensures shorter { OnOk result (length reader.new ≤ length reader.old) }
     ensures err { result ≡ Err Unread.NotJson

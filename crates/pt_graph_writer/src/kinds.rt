@@ -79,7 +79,8 @@ fn kind_members(
     blocks: &[Named],
     kind: &Kind,
 ) -> Result<Map<String, Value>, AllocError>
-    ensures members { IfOk result (λ m. members_view m.entries ≡ members (kind_fields blocks.now kind.now)) }
+    ensures members { IfOk result (λ m.
+        members_view m.entries ≡ members (kind_fields blocks.now kind.now)) }
     ensures fits { IfOk result (λ m. kind_fits kind.now ≡ true) }
 {
     match kind {
@@ -103,7 +104,8 @@ fn kind_members(
 }
 
 fn sensor(alloc: Global, file: &str, bound: u64) -> Result<Map<String, Value>, AllocError>
-    ensures { IfOk result (λ m. members_view m.entries ≡ members (kind_fields [] (kind.Sensor file.now bound))) }
+    ensures { IfOk result (λ m. members_view m.entries
+        ≡ members (kind_fields [] (kind.Sensor file.now bound))) }
 {
     let file = Value::try_from_str(alloc, file)?;
     two(alloc, "file", file, "bound", Value::from(bound))
@@ -117,7 +119,9 @@ fn machine(
     outputs: u32,
     rows: &List<MachineRow>,
 ) -> Result<Map<String, Value>, AllocError>
-    ensures members { IfOk result (λ m. members_view m.entries ≡ members (kind_fields blocks.now (kind.Machine start outputs rows.now))) }
+    ensures members { IfOk result (λ m.
+        members_view m.entries ≡ members
+        (kind_fields blocks.now (kind.Machine start outputs rows.now))) }
     ensures fits { IfOk result (λ m. kind_fits (kind.Machine start outputs rows.now) ≡ true) }
 {
     let rows = entries(alloc, graph, blocks, rows.as_slice())?;
@@ -132,7 +136,8 @@ fn lanes(
     blocks: &[Named],
     cells: &List<u32>,
 ) -> Result<Map<String, Value>, AllocError>
-    ensures { IfOk result (λ m. members_view m.entries ≡ members (kind_fields blocks.now (kind.Lanes cells.now))) }
+    ensures { IfOk result (λ m. members_view m.entries
+        ≡ members (kind_fields blocks.now (kind.Lanes cells.now))) }
 {
     one(
         alloc,
@@ -142,7 +147,8 @@ fn lanes(
 }
 
 fn every(alloc: Global, start: Time, period: u64) -> Result<Map<String, Value>, AllocError>
-    ensures { IfOk result (λ m. members_view m.entries ≡ members (kind_fields [] (kind.Every start period))) }
+    ensures { IfOk result (λ m. members_view m.entries
+        ≡ members (kind_fields [] (kind.Every start period))) }
 {
     let start = Value::from(start);
     two(alloc, "start", start, "period", Value::from(period))

@@ -25,7 +25,8 @@ pub fn two(
     second: &str,
     other: Value,
 ) -> Result<Map<String, Value>, AllocError>
-    ensures { IfOk result (λ m. members_view m.entries ≡ members ((first.now, view value) ∷ (second.now, view other) ∷ [])) }
+    ensures { IfOk result (λ m. members_view m.entries
+        ≡ members ((first.now, view value) ∷ (second.now, view other) ∷ [])) }
 {
     let mut members = one(alloc, second, other)?;
     put(&mut members, alloc, first, value)?;
@@ -34,7 +35,8 @@ pub fn two(
 
 /// An object with one member, a name.
 pub fn named(alloc: Global, key: &str, name: &str) -> Result<Map<String, Value>, AllocError>
-    ensures { IfOk result (λ m. members_view m.entries ≡ members ((key.now, string name.now) ∷ [])) }
+    ensures { IfOk result (λ m. members_view m.entries
+        ≡ members ((key.now, string name.now) ∷ [])) }
 {
     one(alloc, key, Value::try_from_str(alloc, name)?)
 }

@@ -36,7 +36,8 @@ fn guard_members(
     blocks: &[Named],
     guard: &Option<(u32, Law)>,
 ) -> Result<Map<String, Value>, AllocError>
-    ensures { IfOk result (λ m. members_view m.entries ≡ members (guard_fields blocks.now guard.now)) }
+    ensures { IfOk result (λ m. members_view m.entries
+        ≡ members (guard_fields blocks.now guard.now)) }
 {
     match guard {
         Some((block, _)) => named(alloc, "guard", block_name(blocks, *block)),

@@ -22,8 +22,10 @@ use std::alloc::{AllocError, Global};
 /// 1,048,576 bytes. The same holds for the text with a line feed at its end. (This project's own choice.)
 pub fn graph_text(alloc: Global, graph: &Graph, blocks: &Blocks) -> Result<Vec<u8>, Memory>
     ensures text { IfOk result (λ text. text.items ≡ graph_text graph.now blocks.now.listed.items) }
-    ensures reads_back { IfOk result (λ text. ReadsBack graph.now blocks.now.listed.items text.items) }
-    ensures reads_line { IfOk result (λ text. ReadsBack graph.now blocks.now.listed.items (text.items ++ 10 ∷ [])) }
+    ensures reads_back { IfOk result (λ text.
+        ReadsBack graph.now blocks.now.listed.items text.items) }
+    ensures reads_line { IfOk result (λ text.
+        ReadsBack graph.now blocks.now.listed.items (text.items ++ 10 ∷ [])) }
 {
     let value = graph_value(alloc, graph, blocks.listed())?;
     let text = value.to_vec(alloc)?;
@@ -34,7 +36,8 @@ pub fn graph_text(alloc: Global, graph: &Graph, blocks: &Blocks) -> Result<Vec<u
 #[tactic(auto, unfolding(crate::specs::Text::graph_data))]
 fn graph_value(alloc: Global, graph: &Graph, blocks: &[Named]) -> Result<Value, AllocError>
     ensures value { IfOk result (λ v. view v ≡ graph_data graph.now blocks.now) }
-    ensures fits { IfOk result (λ v. list_all (λ (a : ActorSpec). kind_fits a.kind) graph.now.actors ≡ true) }
+    ensures fits { IfOk result (λ v. list_all (λ (a : ActorSpec). kind_fits a.kind) graph.now.actors
+        ≡ true) }
 {
     let wires = visible_wires(alloc, graph.actors.as_slice(), graph.wires.as_slice())?;
     let pairs = entries(alloc, graph, blocks, graph.clock_errors.as_slice())?;

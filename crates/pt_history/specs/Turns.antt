@@ -7,15 +7,15 @@ use Rattle.pt_types.specs.declared.firing.Task.{Task}
 use Rattle.pt_types.specs.declared.rows.RowAt.{RowAt}
 use Rattle.pt_semantics.specs.Turn.{Turn}
 use Rattle.pt_history.specs.declared.head.Head.{Head}
-use Rattle.pt_history.specs.declared.room.Room.{Room}
+use Rattle.pt_history.specs.declared.room.HistoryRoom.{HistoryRoom}
 
 -- recorded turns, and the room for more turns and for more items in their lists
 pub record RoomyTurns : Type 0 where
   pub turns : List Turn
-  pub room : Room
+  pub room : HistoryRoom
 
 -- the greater of two rooms, number by number
-abbrev pub larger : Room → Room → Room
+abbrev pub larger : HistoryRoom → HistoryRoom → HistoryRoom
 larger a b = record {
   turns = max a.turns b.turns;
   posted = max a.posted b.posted;

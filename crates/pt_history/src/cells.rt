@@ -34,7 +34,10 @@ impl Model for Cells {
 
     ghost Value = { RoomyCells };
 
-    ghost view = { λ c. record { cells = groups_of c.masks.items c.values.items; spare = c.spare } };
+    ghost view = { λ c. record {
+      cells = groups_of c.masks.items c.values.items;
+      spare = c.spare;
+    } };
 
     ghost invariant = { AreCells };
 }
@@ -94,7 +97,8 @@ impl Cells {
     /// compared before.
     pub fn is(&mut self, number: usize, ports: &Ports, state: i64) -> bool
         requires { number < length self.old.cells }
-        ensures same { result ≡ true → slice_get self.old.cells number ≡ Some (cells_of ports.now state) }
+        ensures same { result ≡ true → slice_get self.old.cells number
+            ≡ Some (cells_of ports.now state) }
         ensures unchanged { self.new ≡ self.old }
         ensures eight { length ports.now ≡ 8 }
     {
@@ -160,7 +164,8 @@ fn are_three(
     last: Option<i64>,
 ) -> bool
     requires { start ≤ length values.now }
-    ensures { result ≡ true → group_of mask (drop start values.now) ≡ first ∷ second ∷ six_absent ++ last ∷ [] }
+    ensures { result ≡ true → group_of mask (drop start values.now)
+        ≡ first ∷ second ∷ six_absent ++ last ∷ [] }
 {
     if flag(first) + 2 * flag(second) + 256 * flag(last) != mask as u32 {
         return false;
@@ -182,7 +187,8 @@ fn are_three(
 #[inline(always)]
 fn passed(values: &[i64], at: usize, cell: Option<i64>) -> Option<usize>
     requires { at ≤ length values.now }
-    ensures next { IfSome result (λ next. drop at values.now ≡ value_in cell ++ drop next values.now) }
+    ensures next { IfSome result (λ next.
+        drop at values.now ≡ value_in cell ++ drop next values.now) }
     ensures within { IfSome result (λ next. next ≤ length values.now) }
 {
     match cell {
@@ -249,7 +255,8 @@ fn begin_block(sums: &mut Vec<u32>, count: usize, values: usize)
     requires many { length sums.old.items ≡ (count + 7) / 8 }
     requires fits { values < 2 ^ 32 }
     ensures many { length sums.new.items ≡ (count + 8) / 8 }
-    ensures before { (j : ℕ) → j < length sums.old.items → slice_index_or sums.new.items j 0 ≡ slice_index_or sums.old.items j 0 }
+    ensures before { (j : ℕ) → j < length sums.old.items →
+        slice_index_or sums.new.items j 0 ≡ slice_index_or sums.old.items j 0 }
     ensures last { count % 8 ≡ 0 → slice_index_or sums.new.items (count / 8) 0 ≡ values }
     ensures one { vec_len sums.new ≤ vec_len sums.old + 1 }
     ensures room { vec_capacity sums.old ≤ vec_capacity sums.new }

@@ -34,9 +34,13 @@ impl Model for Claims {
 
     ghost Value = { RoomyTasks };
 
-    ghost view = { λ c. record { tasks = tasks_of_cells c.marks.items c.cells.cells; spare = c.spare } };
+    ghost view = { λ c. record {
+      tasks = tasks_of_cells c.marks.items c.cells.cells;
+      spare = c.spare;
+    } };
 
-    ghost invariant = { λ c. (length c.marks.items ≡ length c.cells.cells) × (c.spare ≤ c.marks.spare) × (c.spare ≤ c.cells.spare) };
+    ghost invariant = { λ c. (length c.marks.items ≡ length c.cells.cells)
+        × (c.spare ≤ c.marks.spare) × (c.spare ≤ c.cells.spare) };
 }
 
 impl Claims {

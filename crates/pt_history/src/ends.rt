@@ -28,9 +28,15 @@ impl Model for Ends {
 
     ghost Value = { RoomyEnds };
 
-    ghost view = { λ e. record { ends = ends_of (starts_of e.starts.items e.pending e.total) e.total; total = e.total; spare = e.starts.spare - e.pending } };
+    ghost view = { λ e. record {
+      ends = ends_of (starts_of e.starts.items e.pending e.total) e.total;
+      total = e.total;
+      spare = e.starts.spare - e.pending;
+    } };
 
-    ghost invariant = { λ e. (slice_index_or (starts_of e.starts.items e.pending e.total ++ e.total ∷ []) 0 0 ≡ 0) × (e.total < 2 ^ 32) × (e.pending ≤ e.starts.spare) };
+    ghost invariant = { λ e. (slice_index_or
+        (starts_of e.starts.items e.pending e.total ++ e.total ∷ []) 0 0 ≡ 0) × (e.total < 2 ^ 32)
+        × (e.pending ≤ e.starts.spare) };
 }
 
 impl Ends {
@@ -76,7 +82,8 @@ impl Ends {
     pub fn grow(&mut self, more: usize)
         requires begun { 0 < length self.old.ends }
         requires fits { self.old.total + more < 2 ^ 32 }
-        ensures ends { self.new.ends ≡ slice_set self.old.ends (length self.old.ends - 1) (self.old.total + more) }
+        ensures ends { self.new.ends ≡ slice_set self.old.ends (length self.old.ends - 1)
+            (self.old.total + more) }
         ensures total { self.new.total ≡ self.old.total + more }
         ensures room { self.new.spare ≡ self.old.spare }
     {
@@ -169,7 +176,8 @@ impl Ends {
         requires { low < length self.now.ends }
         ensures less { low < result }
         ensures few { result ≤ length self.now.ends }
-        ensures behind { result < length self.now.ends → item < slice_index (0 ∷ self.now.ends) result }
+        ensures behind { result < length self.now.ends →
+            item < slice_index (0 ∷ self.now.ends) result }
     {
         let lists = self.len();
         let mut high = low + 1;
@@ -183,7 +191,8 @@ impl Ends {
     #[inline(always)]
     pub fn is_bare(&self, number: usize) -> bool
         requires { number < length self.now.ends }
-        ensures { result ≡ true → slice_index (0 ∷ self.now.ends) number ≡ slice_index self.now.ends number }
+        ensures { result ≡ true → slice_index (0 ∷ self.now.ends) number
+            ≡ slice_index self.now.ends number }
     {
         if number >= self.starts.len() {
             return true;
@@ -196,7 +205,8 @@ impl Ends {
 
     /// Which lists of a block of 64 are known to be empty.
     pub fn levels(&self, block: usize) -> Levels
-        ensures { (n : ℕ) → n / 64 ≡ block → n < length self.now.ends → IsLevel result n → slice_index (0 ∷ self.now.ends) n ≡ slice_index self.now.ends n }
+        ensures { (n : ℕ) → n / 64 ≡ block → n < length self.now.ends → IsLevel result n →
+            slice_index (0 ∷ self.now.ends) n ≡ slice_index self.now.ends n }
     {
         if block > self.starts.len() / 64 {
             return Levels {

@@ -45,7 +45,10 @@ impl Model for Heads {
 
     ghost Value = { RoomyItems Head };
 
-    ghost view = { λ h. record { items = h.past.items ++ heads_in h.recent; spare = h.past.spare } };
+    ghost view = { λ h. record {
+      items = h.past.items ++ heads_in h.recent;
+      spare = h.past.spare;
+    } };
 
     ghost invariant = { AreHeads };
 }
@@ -114,7 +117,9 @@ impl Heads {
     /// Replaces the last two heads by another one and that of a single turn at a reading, in microseconds.
     pub fn replace(&mut self, before: Head, reading: Reading)
         requires { 2 ≤ length self.old.items }
-        ensures items { self.new.items ≡ slice_set (slice_set self.old.items (length self.old.items - 2) before) (length self.old.items - 1) (single reading) }
+        ensures items { self.new.items ≡ slice_set
+            (slice_set self.old.items (length self.old.items - 2) before)
+            (length self.old.items - 1) (single reading) }
         ensures room { self.new.spare ≡ self.old.spare }
     {
         self.recent = Recent::Two(before, reading);
@@ -122,7 +127,8 @@ impl Heads {
 
     /// The last two heads, or `None` if there are fewer.
     pub fn last_two(&self) -> Option<(Head, Head)>
-        ensures { MatchOption result (length self.now.items < 2) (λ two. EndWith self.now.items two.0 two.1) }
+        ensures { MatchOption result (length self.now.items < 2)
+            (λ two. EndWith self.now.items two.0 two.1) }
     {
         match self.recent {
             Recent::Empty => None,

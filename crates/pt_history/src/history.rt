@@ -16,7 +16,7 @@ use crate::head::Head;
 use crate::heads::Heads;
 use crate::levels::TurnLevels;
 use crate::posted_at::PostedAt;
-use crate::room::Room;
+use crate::room::HistoryRoom;
 use crate::work_lists::WorkLists;
 use pt_tags::{Memory, Reading};
 use pt_types::{Done, OnLink, RowAt, Task};
@@ -34,7 +34,7 @@ pub struct History {
     rows: Pieces<RowAt>,
     taken: Pieces<OnLink>,
     sent: Pieces<OnLink>,
-    room: Room,
+    room: HistoryRoom,
     /// Whether the last turn is quiet; means nothing if there is none.
     last_quiet: bool,
     /// Whether the turn before the last is quiet; means nothing if there is none.
@@ -57,7 +57,8 @@ impl History {
     /// A history without turns and without room.
     pub fn new(alloc: Global) -> History
         ensures turns { result.turns ≡ [] }
-        ensures room { result.room ≡ record { turns = 0; posted = 0; rows = 0; taken = 0; claimed = 0; sent = 0 } }
+        ensures room { result.room ≡ record
+            { turns = 0; posted = 0; rows = 0; taken = 0; claimed = 0; sent = 0 } }
     {
         History {
             heads: Heads::new(alloc),
@@ -65,7 +66,7 @@ impl History {
             rows: Pieces::new(alloc),
             taken: Pieces::new(alloc),
             sent: Pieces::new(alloc),
-            room: Room {
+            room: HistoryRoom {
                 turns: 0,
                 posted: 0,
                 rows: 0,
@@ -79,18 +80,19 @@ impl History {
     }
 
     /// Whether at least this much room is reserved.
-    pub fn has_room(&self, room: Room) -> bool
+    pub fn has_room(&self, room: HistoryRoom) -> bool
         ensures { (result ≡ true) ↔ (larger self.now.room room ≡ self.now.room) }
     {
         self.room.holds(room)
     }
 
     /// Reserves at least this much room. If memory runs out, nothing changes.
-    pub fn reserve(&mut self, room: Room) -> Result<(), Memory>
+    pub fn reserve(&mut self, room: HistoryRoom) -> Result<(), Memory>
         ensures turns { self.new.turns ≡ self.old.turns }
         ensures room { OnOk result (self.new.room ≡ larger self.old.room room) }
         ensures unchanged { OnErr result (self.new ≡ self.old) }
-        ensures there { larger self.old.room room ≡ self.old.room → IsOk result × (self.new ≡ self.old) }
+        ensures there { larger self.old.room room ≡ self.old.room → IsOk result
+            × (self.new ≡ self.old) }
     {
         if self.has_room(room) {
             return Ok(());
@@ -127,7 +129,8 @@ impl History {
     #[inline(always)]
     pub fn rest(&mut self, reading: Reading) -> bool
         ensures turns { result ≡ true → self.new.turns ≡ kept_with self.old.turns (fresh reading) }
-        ensures room { result ≡ true → record self.new.room { turns = self.old.room.turns } ≡ self.old.room }
+        ensures room { result ≡ true → record self.new.room { turns = self.old.room.turns }
+            ≡ self.old.room }
         ensures used { self.old.room.turns ≤ self.new.room.turns + 1 }
         ensures unchanged { result ≡ false → self.new ≡ self.old }
         ensures why { result ≡ false → self.old.room.turns ≡ 0 }
@@ -167,7 +170,8 @@ impl History {
     /// Replaces the last two turns, which are quiet, by their joined run and a new quiet turn at a reading, in microseconds.
     fn join(&mut self, run: Head, reading: Reading)
         requires { Joins self.old.turns (length self.old.turns - 2) run }
-        ensures turns { self.new.turns ≡ take (length self.old.turns - 2) self.old.turns ++ quiet run.first run.last run.count ∷ fresh reading ∷ [] }
+        ensures turns { self.new.turns ≡ take (length self.old.turns - 2) self.old.turns
+            ++ quiet run.first run.last run.count ∷ fresh reading ∷ [] }
         ensures room { self.new.room ≡ self.old.room }
     {
         self.heads.replace(run, reading);
@@ -176,7 +180,8 @@ impl History {
     /// The joined head of the last two turns, if both are quiet and their count fits; else `None`.
     #[inline(always)]
     fn run(&self) -> Option<Head>
-        ensures { MatchOption result (settled self.now.turns ≡ self.now.turns) (λ run. Joins self.now.turns (length self.now.turns - 2) run) }
+        ensures { MatchOption result (settled self.now.turns ≡ self.now.turns)
+            (λ run. Joins self.now.turns (length self.now.turns - 2) run) }
     {
         if !self.before_quiet {
             return None;
@@ -200,7 +205,8 @@ impl History {
     /// Whether nothing was posted, entered, taken, claimed or sent in the last turn.
     pub fn was_quiet(&self) -> bool
         requires { 0 < length self.now.turns }
-        ensures { option_map is_quiet (slice_get self.now.turns (length self.now.turns - 1)) ≡ Some result }
+        ensures { option_map is_quiet (slice_get self.now.turns (length self.now.turns - 1))
+            ≡ Some result }
     {
         self.last_quiet
     }
@@ -210,7 +216,8 @@ impl History {
         requires room { length dones.now ≤ self.old.room.posted }
         requires begun { 0 < length self.old.turns }
         ensures turns { self.new.turns ≡ on_last (posting dones.now) self.old.turns }
-        ensures room { self.new.room ≡ record self.old.room { posted = self.old.room.posted - length dones.now } }
+        ensures room { self.new.room ≡ record self.old.room
+            { posted = self.old.room.posted - length dones.now } }
     {
         self.work.post(dones);
         self.room.posted -= dones.len();
@@ -222,7 +229,8 @@ impl History {
         requires room { length rows.now ≤ self.old.room.rows }
         requires begun { 0 < length self.old.turns }
         ensures turns { self.new.turns ≡ on_last (entering rows.now) self.old.turns }
-        ensures room { self.new.room ≡ record self.old.room { rows = self.old.room.rows - length rows.now } }
+        ensures room { self.new.room ≡ record self.old.room
+            { rows = self.old.room.rows - length rows.now } }
     {
         self.rows.extend(rows);
         self.room.rows -= rows.len();
@@ -234,7 +242,8 @@ impl History {
         requires room { length messages.now ≤ self.old.room.taken }
         requires begun { 0 < length self.old.turns }
         ensures turns { self.new.turns ≡ on_last (taking messages.now) self.old.turns }
-        ensures room { self.new.room ≡ record self.old.room { taken = self.old.room.taken - length messages.now } }
+        ensures room { self.new.room ≡ record self.old.room
+            { taken = self.old.room.taken - length messages.now } }
     {
         self.taken.extend(messages);
         self.room.taken -= messages.len();
@@ -246,7 +255,8 @@ impl History {
         requires room { length tasks.now ≤ self.old.room.claimed }
         requires begun { 0 < length self.old.turns }
         ensures turns { self.new.turns ≡ on_last (claiming tasks.now) self.old.turns }
-        ensures room { self.new.room ≡ record self.old.room { claimed = self.old.room.claimed - length tasks.now } }
+        ensures room { self.new.room ≡ record self.old.room
+            { claimed = self.old.room.claimed - length tasks.now } }
     {
         self.work.claim(tasks);
         self.room.claimed -= tasks.len();
@@ -258,7 +268,8 @@ impl History {
         requires room { length messages.now ≤ self.old.room.sent }
         requires begun { 0 < length self.old.turns }
         ensures turns { self.new.turns ≡ on_last (sending messages.now) self.old.turns }
-        ensures room { self.new.room ≡ record self.old.room { sent = self.old.room.sent - length messages.now } }
+        ensures room { self.new.room ≡ record self.old.room
+            { sent = self.old.room.sent - length messages.now } }
     {
         self.sent.extend(messages);
         self.room.sent -= messages.len();
@@ -323,7 +334,8 @@ impl History {
     /// The task of result `number` of a recorded turn, counted from 0, without its inputs and its state.
     pub fn done_mark(&self, turn: usize, number: usize) -> Mark
         requires { number < length (posted_in self.now.turns turn) }
-        ensures { option_map (λ done. mark_of done.task) (slice_get (posted_in self.now.turns turn) number) ≡ Some result }
+        ensures { option_map (λ done. mark_of done.task)
+            (slice_get (posted_in self.now.turns turn) number) ≡ Some result }
     {
         self.work.done_mark(turn, number)
     }
@@ -338,7 +350,8 @@ impl History {
     /// The task of result `number` of all recorded turns, counted from 0, without its inputs and its state.
     pub fn result_mark(&self, number: usize) -> Mark
         requires { number < length (all_dated self.now.turns) }
-        ensures { option_map (λ dated. mark_of dated.done.task) (slice_get (all_dated self.now.turns) number) ≡ Some result }
+        ensures { option_map (λ dated. mark_of dated.done.task)
+            (slice_get (all_dated self.now.turns) number) ≡ Some result }
     {
         self.work.result_mark(number)
     }
@@ -347,7 +360,8 @@ impl History {
     /// `near`, as for the result after one that was posted in that turn.
     pub fn posted_at(&self, number: usize, near: usize) -> PostedAt
         requires { number < length (all_dated self.now.turns) }
-        ensures { option_map (λ dated. dated.reading) (slice_get (all_dated self.now.turns) number) ≡ Some result.reading }
+        ensures { option_map (λ dated. dated.reading) (slice_get (all_dated self.now.turns) number)
+            ≡ Some result.reading }
     {
         let turn = self.work.list_of_result(number, near);
         let reading = self.heads.get(turn).last;
@@ -357,7 +371,8 @@ impl History {
     /// The rows entered in a recorded turn.
     pub fn rows(&self, number: usize) -> &[RowAt]
         requires { number < length self.now.turns }
-        ensures { option_map (λ turn. turn.rows) (slice_get self.now.turns number) ≡ Some result.now }
+        ensures { option_map (λ turn. turn.rows) (slice_get self.now.turns number)
+            ≡ Some result.now }
     {
         self.rows.get(number)
     }
@@ -365,7 +380,8 @@ impl History {
     /// The messages taken in a recorded turn.
     pub fn taken(&self, number: usize) -> &[OnLink]
         requires { number < length self.now.turns }
-        ensures { option_map (λ turn. turn.taken) (slice_get self.now.turns number) ≡ Some result.now }
+        ensures { option_map (λ turn. turn.taken) (slice_get self.now.turns number)
+            ≡ Some result.now }
     {
         self.taken.get(number)
     }
@@ -395,7 +411,8 @@ impl History {
     /// Claim `number` of a recorded turn, counted from 0, without its inputs and its state.
     pub fn claim_mark(&self, turn: usize, number: usize) -> Mark
         requires { number < length (claimed_in self.now.turns turn) }
-        ensures { option_map mark_of (slice_get (claimed_in self.now.turns turn) number) ≡ Some result }
+        ensures { option_map mark_of (slice_get (claimed_in self.now.turns turn) number)
+            ≡ Some result }
     {
         self.work.claim_mark(turn, number)
     }
@@ -403,7 +420,8 @@ impl History {
     /// The messages sent after a recorded turn and before the next one.
     pub fn sent(&self, number: usize) -> &[OnLink]
         requires { number < length self.now.turns }
-        ensures { option_map (λ turn. turn.sent) (slice_get self.now.turns number) ≡ Some result.now }
+        ensures { option_map (λ turn. turn.sent) (slice_get self.now.turns number)
+            ≡ Some result.now }
     {
         self.sent.get(number)
     }
@@ -426,7 +444,8 @@ impl History {
     /// Claim `number` of all recorded turns, counted from 0, without its inputs and its state.
     pub fn mark(&self, number: usize) -> Mark
         requires { number < length (flat_map (λ turn. turn.claimed) self.now.turns) }
-        ensures { option_map mark_of (slice_get (flat_map (λ turn. turn.claimed) self.now.turns) number) ≡ Some result }
+        ensures { option_map mark_of (slice_get
+            (flat_map (λ turn. turn.claimed) self.now.turns) number) ≡ Some result }
     {
         self.work.mark(number)
     }
@@ -434,7 +453,8 @@ impl History {
     /// The number of results posted up to the end of a recorded turn.
     pub fn results_through(&self, turn: usize) -> usize
         requires { turn < length self.now.turns }
-        ensures { result ≡ length (flat_map (λ turn. turn.posted) (take (turn + 1) self.now.turns)) }
+        ensures { result ≡ length (flat_map (λ turn. turn.posted)
+            (take (turn + 1) self.now.turns)) }
     {
         self.work.results_through(turn)
     }
@@ -442,7 +462,8 @@ impl History {
     /// The number of tasks claimed up to the end of a recorded turn.
     pub fn claims_through(&self, turn: usize) -> usize
         requires { turn < length self.now.turns }
-        ensures { result ≡ length (flat_map (λ turn. turn.claimed) (take (turn + 1) self.now.turns)) }
+        ensures { result ≡ length (flat_map (λ turn. turn.claimed)
+            (take (turn + 1) self.now.turns)) }
     {
         self.work.claims_through(turn)
     }

@@ -42,7 +42,10 @@ impl Model for Indices {
 
     ghost Value = { RoomyIndices };
 
-    ghost view = { λ n. record { indices = indices_from (n.blocks.items ++ n.newest ∷ []) 0 n.count; spare = n.limit - n.count } };
+    ghost view = { λ n. record {
+      indices = indices_from (n.blocks.items ++ n.newest ∷ []) 0 n.count;
+      spare = n.limit - n.count;
+    } };
 
     ghost invariant = { AreIndices };
 }
@@ -84,7 +87,8 @@ impl Indices {
     pub fn push(&mut self, index: u32)
         requires room { 0 < self.old.spare }
         requires low { slice_index_or self.old.indices (length self.old.indices - 1) 0 ≤ index }
-        requires high { index ≤ slice_index_or self.old.indices (length self.old.indices - 1) 0 + 1 }
+        requires high { index ≤ slice_index_or self.old.indices
+            (length self.old.indices - 1) 0 + 1 }
         ensures indices { self.new.indices ≡ self.old.indices ++ index ∷ [] }
         ensures room { self.new.spare + 1 ≡ self.old.spare }
     {
@@ -99,7 +103,9 @@ impl Indices {
     #[inline(always)]
     pub fn again(&mut self)
         requires { 0 < self.old.spare }
-        ensures indices { self.new.indices ≡ self.old.indices ++ slice_index_or self.old.indices (length self.old.indices - 1) 0 ∷ [] }
+        ensures indices { self.new.indices
+            ≡ self.old.indices ++ slice_index_or self.old.indices (length self.old.indices - 1) 0 ∷
+            [] }
         ensures room { self.new.spare + 1 ≡ self.old.spare }
     {
         self.count += 1;
@@ -114,7 +120,8 @@ impl Indices {
         requires some { 0 < times }
         requires room { times ≤ self.old.spare }
         requires low { slice_index_or self.old.indices (length self.old.indices - 1) 0 ≤ index }
-        requires high { index ≤ slice_index_or self.old.indices (length self.old.indices - 1) 0 + 1 }
+        requires high { index ≤ slice_index_or self.old.indices
+            (length self.old.indices - 1) 0 + 1 }
         ensures indices { self.new.indices ≡ self.old.indices ++ replicate times index }
         ensures room { self.new.spare + times ≡ self.old.spare }
     {
@@ -134,7 +141,8 @@ impl Indices {
         requires some { 0 < times }
         requires room { times ≤ self.old.spare }
         requires low { slice_index_or self.old.indices (length self.old.indices - 1) 0 ≤ index }
-        requires high { index ≤ slice_index_or self.old.indices (length self.old.indices - 1) 0 + 1 }
+        requires high { index ≤ slice_index_or self.old.indices
+            (length self.old.indices - 1) 0 + 1 }
         ensures indices { self.new.indices ≡ self.old.indices ++ replicate times index }
         ensures room { self.new.spare + times ≡ self.old.spare }
     {
@@ -145,7 +153,9 @@ impl Indices {
     /// Appends the last index this many times more, or 0. Allocates nothing.
     fn repeat(&mut self, more: usize)
         requires { more ≤ self.old.spare }
-        ensures indices { self.new.indices ≡ self.old.indices ++ replicate more (slice_index_or self.old.indices (length self.old.indices - 1) 0) }
+        ensures indices { self.new.indices
+            ≡ self.old.indices ++ replicate more
+            (slice_index_or self.old.indices (length self.old.indices - 1) 0) }
         ensures room { self.new.spare + more ≡ self.old.spare }
     {
         let mut left = more;
@@ -159,7 +169,9 @@ impl Indices {
     /// Appends the last index, or 0, until the newest block is full. Allocates nothing.
     fn fill(&mut self)
         requires { 64 - length self.old.indices % 64 ≤ self.old.spare }
-        ensures indices { self.new.indices ≡ self.old.indices ++ replicate (64 - length self.old.indices % 64) (slice_index_or self.old.indices (length self.old.indices - 1) 0) }
+        ensures indices { self.new.indices
+            ≡ self.old.indices ++ replicate (64 - length self.old.indices % 64)
+            (slice_index_or self.old.indices (length self.old.indices - 1) 0) }
         ensures room { self.new.spare + (64 - length self.old.indices % 64) ≡ self.old.spare }
     {
         self.stay(PER_BLOCK - 1 - self.len() % PER_BLOCK);
@@ -170,7 +182,9 @@ impl Indices {
     fn stay(&mut self, more: usize)
         requires room { more ≤ self.old.spare }
         requires within { length self.old.indices % 64 + more < 64 }
-        ensures indices { self.new.indices ≡ self.old.indices ++ replicate more (slice_index_or self.old.indices (length self.old.indices - 1) 0) }
+        ensures indices { self.new.indices
+            ≡ self.old.indices ++ replicate more
+            (slice_index_or self.old.indices (length self.old.indices - 1) 0) }
         ensures room { self.new.spare + more ≡ self.old.spare }
     {
         self.count += more;
@@ -179,8 +193,11 @@ impl Indices {
     /// Appends the index after the last one, or 1. Allocates nothing.
     fn next(&mut self)
         requires room { 0 < self.old.spare }
-        requires fits { slice_index_or self.old.indices (length self.old.indices - 1) 0 + 1 < 2 ^ 32 }
-        ensures indices { self.new.indices ≡ self.old.indices ++ (slice_index_or self.old.indices (length self.old.indices - 1) 0 + 1) ∷ [] }
+        requires fits { slice_index_or self.old.indices (length self.old.indices - 1) 0 + 1
+            < 2 ^ 32 }
+        ensures indices { self.new.indices
+            ≡ self.old.indices ++ (slice_index_or self.old.indices
+            (length self.old.indices - 1) 0 + 1) ∷ [] }
         ensures room { self.new.spare + 1 ≡ self.old.spare }
     {
         self.newest = raised(self.newest, self.count % PER_BLOCK);
@@ -225,7 +242,8 @@ impl Indices {
     #[inline(always)]
     pub fn stays(&self, number: usize) -> bool
         requires { number + 1 < length self.now.indices }
-        ensures { result ≡ true → slice_index_or self.now.indices (number + 1) 0 ≡ slice_index_or self.now.indices number 0 }
+        ensures { result ≡ true → slice_index_or self.now.indices (number + 1) 0
+            ≡ slice_index_or self.now.indices number 0 }
     {
         if number % PER_BLOCK == PER_BLOCK - 1 {
             return false;
@@ -236,8 +254,10 @@ impl Indices {
 
     /// Which indices of a block are known to be the same as the next ones. Nothing is known of the newest block.
     pub fn levels(&self, block: usize) -> Levels
-        ensures next { (n : ℕ) → n / 64 ≡ block → IsLevel result n → n + 1 < length self.now.indices }
-        ensures same { (n : ℕ) → n / 64 ≡ block → IsLevel result n → slice_index_or self.now.indices (n + 1) 0 ≡ slice_index_or self.now.indices n 0 }
+        ensures next { (n : ℕ) → n / 64 ≡ block → IsLevel result n →
+            n + 1 < length self.now.indices }
+        ensures same { (n : ℕ) → n / 64 ≡ block → IsLevel result n →
+            slice_index_or self.now.indices (n + 1) 0 ≡ slice_index_or self.now.indices n 0 }
     {
         if block >= self.count / PER_BLOCK {
             return Levels { bits: 0, limit: 0 };

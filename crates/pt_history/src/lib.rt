@@ -37,4 +37,4 @@ pub use levels::{HeadLevels, Levels, TurnLevels};
 pub use miss::Miss;
 pub use pieces::Pieces;
 pub use posted_at::PostedAt;
-pub use room::Room;
+pub use room::HistoryRoom;

@@ -34,7 +34,11 @@ impl Model for Marks {
 
     ghost Value = { RoomyItems Mark };
 
-    ghost view = { λ m. record { items = marks_of m.tags.items m.actors.items (mark_numbers (length m.tags.items) m.numbers.items); spare = m.spare } };
+    ghost view = { λ m. record {
+      items = marks_of m.tags.items m.actors.items
+          (mark_numbers (length m.tags.items) m.numbers.items);
+      spare = m.spare;
+    } };
 
     ghost invariant = { AreFlatMarks };
 }
@@ -119,7 +123,8 @@ fn store_tag(tags: &mut Repeats<Tag>, tag: Tag)
 fn store_number(numbers: &mut Vec<u64>, count: usize, number: u64)
     requires room { vec_len numbers.old < vec_capacity numbers.old }
     requires few { length numbers.old.items ≤ count }
-    ensures numbers { mark_numbers (count + 1) numbers.new.items ≡ mark_numbers count numbers.old.items ++ number ∷ [] }
+    ensures numbers { mark_numbers (count + 1) numbers.new.items
+        ≡ mark_numbers count numbers.old.items ++ number ∷ [] }
     ensures few { length numbers.new.items ≤ count + 1 }
     ensures one { vec_len numbers.new ≤ vec_len numbers.old + 1 }
     ensures room { vec_capacity numbers.old ≤ vec_capacity numbers.new }

@@ -42,7 +42,10 @@ impl Model for PastHeads {
 
     ghost Value = { RoomyItems Head };
 
-    ghost view = { λ h. record { items = heads_of h.lasts.items h.runs.lists; spare = h.lasts.spare } };
+    ghost view = { λ h. record {
+      items = heads_of h.lasts.items h.runs.lists;
+      spare = h.lasts.spare;
+    } };
 
     ghost invariant = { ArePastHeads };
 }
@@ -157,7 +160,8 @@ fn store(lasts: &mut Repeats<u64>, newest: &mut Option<u64>, reading: Reading)
 /// What the head of a run has besides its last reading; `None` for the head of a single turn, which only saves memory: a run
 /// of one turn would be right too.
 fn run_of(head: Head) -> Option<Run>
-    ensures { MatchOption result (head ≡ single head.last) (λ run. head_with head.last (run ∷ []) ≡ head) }
+    ensures { MatchOption result (head ≡ single head.last)
+        (λ run. head_with head.last (run ∷ []) ≡ head) }
 {
     if same_head(head, Head::single(head.last)) {
         return None;

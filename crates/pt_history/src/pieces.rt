@@ -33,9 +33,15 @@ impl<T> Model for Pieces<T> {
 
     ghost Value = { RoomyLists T };
 
-    ghost view = { λ p. record { lists = pieces 0 p.ends.ends p.items.items; spare_items = p.spare_items; spare_lists = p.ends.spare } };
+    ghost view = { λ p. record {
+      lists = pieces 0 p.ends.ends p.items.items;
+      spare_items = p.spare_items;
+      spare_lists = p.ends.spare;
+    } };
 
-    ghost invariant = { λ p. Rises 0 p.ends.ends (length p.items.items) × (vec_len p.items + p.spare_items ≤ vec_capacity p.items) × (p.ends.total ≡ length p.items.items) × (length p.items.items + p.spare_items < 2 ^ 32) };
+    ghost invariant = { λ p. Rises 0 p.ends.ends (length p.items.items)
+        × (vec_len p.items + p.spare_items ≤ vec_capacity p.items)
+        × (p.ends.total ≡ length p.items.items) × (length p.items.items + p.spare_items < 2 ^ 32) };
 }
 
 impl<T: Drop> Pieces<T> {
@@ -58,7 +64,8 @@ impl<T: Drop> Pieces<T> {
         ensures items { OnOk result (self.new.spare_items ≡ max self.old.spare_items items) }
         ensures room { OnOk result (self.new.spare_lists ≡ max self.old.spare_lists lists) }
         ensures unchanged { OnErr result (self.new ≡ self.old) }
-        ensures there { items ≤ self.old.spare_items → lists ≤ self.old.spare_lists → IsOk result × (self.new ≡ self.old) }
+        ensures there { items ≤ self.old.spare_items → lists ≤ self.old.spare_lists → IsOk result
+            × (self.new ≡ self.old) }
     {
         if items >= MOST_ITEMS - self.items.len() {
             return Err(Memory);
@@ -142,7 +149,8 @@ impl<T: Drop> Pieces<T> {
 
     /// Which lists of a block of 64 are known to be empty.
     pub fn levels(&self, block: usize) -> Levels
-        ensures { (n : ℕ) → n / 64 ≡ block → n < length self.now.lists → IsLevel result n → slice_get self.now.lists n ≡ Some [] }
+        ensures { (n : ℕ) → n / 64 ≡ block → n < length self.now.lists → IsLevel result n →
+            slice_get self.now.lists n ≡ Some [] }
     {
         self.ends.levels(block)
     }
@@ -198,7 +206,9 @@ fn part<T>(items: &[T], start: usize, end: usize) -> &[T]
 pub(crate) fn widened<T>(items: &mut Vec<T>, spare: usize, wanted: usize) -> Result<usize, Memory>
     requires { vec_len items.old + spare ≤ vec_capacity items.old }
     ensures items { items.new.items ≡ items.old.items }
-    ensures room { MatchResult result (λ room. (room ≡ max spare wanted) × (vec_len items.new + room ≤ vec_capacity items.new)) (λ _. vec_len items.new + spare ≤ vec_capacity items.new) }
+    ensures room { MatchResult result
+        (λ room. (room ≡ max spare wanted) × (vec_len items.new + room ≤ vec_capacity items.new))
+        (λ _. vec_len items.new + spare ≤ vec_capacity items.new) }
     ensures there { wanted ≤ spare → IsOk result }
 {
     if spare >= wanted {

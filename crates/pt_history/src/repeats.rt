@@ -26,9 +26,15 @@ impl<T> Model for Repeats<T> {
 
     ghost Value = { RoomyItems T };
 
-    ghost view = { λ r. record { items = values_at r.values.items r.indices.indices; spare = r.indices.spare } };
+    ghost view = { λ r. record {
+      items = values_at r.values.items r.indices.indices;
+      spare = r.indices.spare;
+    } };
 
-    ghost invariant = { λ r. AreBelow (length r.values.items) r.indices.indices × (slice_index_or r.indices.indices (length r.indices.indices - 1) 0 ≡ length r.values.items - 1) × (vec_len r.values + r.indices.spare ≤ vec_capacity r.values) × (length r.values.items + r.indices.spare < 2 ^ 32) };
+    ghost invariant = { λ r. AreBelow (length r.values.items) r.indices.indices
+        × (slice_index_or r.indices.indices (length r.indices.indices - 1) 0
+        ≡ length r.values.items - 1) × (vec_len r.values + r.indices.spare ≤ vec_capacity r.values)
+        × (length r.values.items + r.indices.spare < 2 ^ 32) };
 }
 
 impl<T: Drop> Repeats<T> {
@@ -78,7 +84,8 @@ impl<T: Drop> Repeats<T> {
     pub fn again(&mut self)
         requires room { 0 < self.old.spare }
         requires begun { 0 < length self.old.items }
-        ensures items { (x : T) → slice_get self.old.items (length self.old.items - 1) ≡ Some x → self.new.items ≡ self.old.items ++ x ∷ [] }
+        ensures items { (x : T) → slice_get self.old.items (length self.old.items - 1) ≡ Some x →
+            self.new.items ≡ self.old.items ++ x ∷ [] }
         ensures room { self.new.spare + 1 ≡ self.old.spare }
     {
         self.indices.again();
@@ -115,7 +122,8 @@ impl<T: Drop> Repeats<T> {
     #[inline(always)]
     pub fn stays(&self, number: usize) -> bool
         requires { number + 1 < length self.now.items }
-        ensures { result ≡ true → slice_get self.now.items (number + 1) ≡ slice_get self.now.items number }
+        ensures { result ≡ true → slice_get self.now.items (number + 1)
+            ≡ slice_get self.now.items number }
     {
         self.indices.stays(number)
     }
@@ -123,7 +131,8 @@ impl<T: Drop> Repeats<T> {
     /// Which items of a block of 64 are known to be the same as the next ones.
     pub fn levels(&self, block: usize) -> Levels
         ensures next { (n : ℕ) → n / 64 ≡ block → IsLevel result n → n + 1 < length self.now.items }
-        ensures same { (n : ℕ) → n / 64 ≡ block → IsLevel result n → slice_get self.now.items (n + 1) ≡ slice_get self.now.items n }
+        ensures same { (n : ℕ) → n / 64 ≡ block → IsLevel result n →
+            slice_get self.now.items (n + 1) ≡ slice_get self.now.items n }
     {
         self.indices.levels(block)
     }

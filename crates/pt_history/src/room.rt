@@ -5,7 +5,7 @@ ghost use Rattle.pt_history.specs.Turns.{larger};
 
 /// Room for more turns, and for more items in each of the five lists of all turns together.
 #[derive(Clone, Copy, Debug, PartialEq, Eq)]
-pub struct Room {
+pub struct HistoryRoom {
     pub turns: usize,
     pub posted: usize,
     pub rows: usize,
@@ -14,12 +14,12 @@ pub struct Room {
     pub sent: usize,
 }
 
-impl Room {
+impl HistoryRoom {
     /// The greater of the two, number by number.
-    pub(crate) fn or_more(self, other: Room) -> Room
+    pub(crate) fn or_more(self, other: HistoryRoom) -> HistoryRoom
         ensures { result ≡ larger self other }
     {
-        Room {
+        HistoryRoom {
             turns: self.turns.max(other.turns),
             posted: self.posted.max(other.posted),
             rows: self.rows.max(other.rows),
@@ -30,7 +30,7 @@ impl Room {
     }
 
     /// Whether no number of `other` is greater.
-    pub(crate) fn holds(self, other: Room) -> bool
+    pub(crate) fn holds(self, other: HistoryRoom) -> bool
         ensures { (result ≡ true) ↔ (larger self other ≡ self) }
     {
         other.turns <= self.turns

@@ -42,7 +42,10 @@ impl Model for Sources {
 
     ghost Value = { RoomyItems Source };
 
-    ghost view = { λ s. record { items = sources_of s.in_order s.claims.items s.rest.items; spare = s.spare } };
+    ghost view = { λ s. record {
+      items = sources_of s.in_order s.claims.items s.rest.items;
+      spare = s.spare;
+    } };
 
     ghost invariant = { AreStoredSources };
 }
@@ -127,12 +130,14 @@ fn stored(claims: &[u32], rest: &[Source], number: usize) -> Source
 fn store(in_order: &mut usize, claims: &mut Vec<u32>, rest: &mut Vec<Source>, source: Source)
     requires claims { vec_len claims.old < vec_capacity claims.old }
     requires rest { vec_len rest.old < vec_capacity rest.old }
-    ensures items { sources_of in_order.new claims.new.items rest.new.items ≡ sources_of in_order.old claims.old.items rest.old.items ++ source ∷ [] }
+    ensures items { sources_of in_order.new claims.new.items rest.new.items
+        ≡ sources_of in_order.old claims.old.items rest.old.items ++ source ∷ [] }
     ensures claims_room { vec_capacity claims.old ≤ vec_capacity claims.new }
     ensures rest_room { vec_capacity rest.old ≤ vec_capacity rest.new }
     ensures few_claims { vec_len claims.new ≤ vec_len claims.old + 1 }
     ensures few_rest { vec_len rest.new ≤ vec_len rest.old + 1 }
-    ensures few { in_order.new + vec_len claims.new + vec_len rest.new ≤ in_order.old + vec_len claims.old + vec_len rest.old + 1 }
+    ensures few { in_order.new + vec_len claims.new + vec_len rest.new
+        ≤ in_order.old + vec_len claims.old + vec_len rest.old + 1 }
 {
     if rest.is_empty() {
         if let Source::Claim(number) = source {
@@ -146,7 +151,8 @@ fn store(in_order: &mut usize, claims: &mut Vec<u32>, rest: &mut Vec<Source>, so
 /// Appends the index of a claim. It is only counted if it is the number of indices before it, and so are all of those.
 fn store_claim(in_order: &mut usize, claims: &mut Vec<u32>, number: u32)
     requires { vec_len claims.old < vec_capacity claims.old }
-    ensures numbers { claim_numbers in_order.new claims.new.items ≡ claim_numbers in_order.old claims.old.items ++ number ∷ [] }
+    ensures numbers { claim_numbers in_order.new claims.new.items
+        ≡ claim_numbers in_order.old claims.old.items ++ number ∷ [] }
     ensures room { vec_capacity claims.old ≤ vec_capacity claims.new }
     ensures few_claims { vec_len claims.new ≤ vec_len claims.old + 1 }
     ensures few { in_order.new + vec_len claims.new ≤ in_order.old + vec_len claims.old + 1 }

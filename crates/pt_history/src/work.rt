@@ -33,7 +33,12 @@ impl Model for Work {
 
     ghost Value = { RoomyWork };
 
-    ghost view = { λ w. record { tasks = w.claims.tasks; dones = dones_of w.claims.tasks w.others.items w.sources.items w.fired.cells; spare_tasks = w.claims.spare; spare_dones = w.spare } };
+    ghost view = { λ w. record {
+      tasks = w.claims.tasks;
+      dones = dones_of w.claims.tasks w.others.items w.sources.items w.fired.cells;
+      spare_tasks = w.claims.spare;
+      spare_dones = w.spare;
+    } };
 
     ghost invariant = { IsWork };
 }
@@ -57,9 +62,12 @@ impl Work {
     pub fn reserve(&mut self, claims: usize, results: usize) -> Result<(), Memory>
         ensures tasks { self.new.tasks ≡ self.old.tasks }
         ensures dones { self.new.dones ≡ self.old.dones }
-        ensures kept { (self.old.spare_tasks ≤ self.new.spare_tasks) × (self.old.spare_dones ≤ self.new.spare_dones) }
-        ensures bound { (self.new.spare_tasks ≤ max self.old.spare_tasks claims) × (self.new.spare_dones ≤ max self.old.spare_dones results) }
-        ensures room { OnOk result ((claims ≤ self.new.spare_tasks) × (results ≤ self.new.spare_dones)) }
+        ensures kept { (self.old.spare_tasks ≤ self.new.spare_tasks)
+            × (self.old.spare_dones ≤ self.new.spare_dones) }
+        ensures bound { (self.new.spare_tasks ≤ max self.old.spare_tasks claims)
+            × (self.new.spare_dones ≤ max self.old.spare_dones results) }
+        ensures room { OnOk result ((claims ≤ self.new.spare_tasks)
+            × (results ≤ self.new.spare_dones)) }
     {
         if results >= MOST_ITEMS - self.others.len() {
             return Err(Memory);
@@ -173,7 +181,8 @@ impl Work {
     /// The task of result `number`, counted from 0, without its inputs and its state.
     pub fn done_mark(&self, number: usize) -> Mark
         requires { number < length self.now.dones }
-        ensures { option_map (λ done. mark_of done.task) (slice_get self.now.dones number) ≡ Some result }
+        ensures { option_map (λ done. mark_of done.task) (slice_get self.now.dones number)
+            ≡ Some result }
     {
         mark_at(
             &self.claims,

@@ -51,10 +51,13 @@ impl WorkLists {
     /// Reserves room for at least this many more claims, results, and lists of each. It fails if memory runs out, or if the
     /// number of claims or that of results could reach 2^32.
     pub fn reserve(&mut self, claims: usize, results: usize, lists: usize) -> Result<(), Memory>
-        ensures lists { (self.new.claimed.lists ≡ self.old.claimed.lists) × (self.new.posted.lists ≡ self.old.posted.lists) }
+        ensures lists { (self.new.claimed.lists ≡ self.old.claimed.lists)
+            × (self.new.posted.lists ≡ self.old.posted.lists) }
         ensures kept { IsRoomier self.old self.new }
-        ensures claims { OnOk result ((claims ≤ self.new.claimed.spare_items) × (lists ≤ self.new.claimed.spare_lists)) }
-        ensures results { OnOk result ((results ≤ self.new.posted.spare_items) × (lists ≤ self.new.posted.spare_lists)) }
+        ensures claims { OnOk result ((claims ≤ self.new.claimed.spare_items)
+            × (lists ≤ self.new.claimed.spare_lists)) }
+        ensures results { OnOk result ((results ≤ self.new.posted.spare_items)
+            × (lists ≤ self.new.posted.spare_lists)) }
     {
         if claims >= MOST_ITEMS - self.claimed.total() {
             return Err(Memory);
@@ -74,8 +77,10 @@ impl WorkLists {
         requires posted { 0 < self.old.posted.spare_lists }
         ensures claimed { self.new.claimed.lists ≡ self.old.claimed.lists ++ [] ∷ [] }
         ensures posted { self.new.posted.lists ≡ self.old.posted.lists ++ [] ∷ [] }
-        ensures items { (self.new.claimed.spare_items ≡ self.old.claimed.spare_items) × (self.new.posted.spare_items ≡ self.old.posted.spare_items) }
-        ensures room { (self.new.claimed.spare_lists + 1 ≡ self.old.claimed.spare_lists) × (self.new.posted.spare_lists + 1 ≡ self.old.posted.spare_lists) }
+        ensures items { (self.new.claimed.spare_items ≡ self.old.claimed.spare_items)
+            × (self.new.posted.spare_items ≡ self.old.posted.spare_items) }
+        ensures room { (self.new.claimed.spare_lists + 1 ≡ self.old.claimed.spare_lists)
+            × (self.new.posted.spare_lists + 1 ≡ self.old.posted.spare_lists) }
     {
         self.claimed.begin();
         self.posted.begin();
@@ -85,8 +90,10 @@ impl WorkLists {
     pub fn claim(&mut self, tasks: &[Task])
         requires spare { length tasks.now ≤ self.old.claimed.spare_items }
         requires begun { 0 < length self.old.claimed.lists }
-        ensures lists { self.new.claimed.lists ≡ on_last (λ list. list ++ tasks.now) self.old.claimed.lists }
-        ensures items { self.new.claimed.spare_items + length tasks.now ≡ self.old.claimed.spare_items }
+        ensures lists { self.new.claimed.lists
+            ≡ on_last (λ list. list ++ tasks.now) self.old.claimed.lists }
+        ensures items { self.new.claimed.spare_items + length tasks.now
+            ≡ self.old.claimed.spare_items }
         ensures room { self.new.claimed.spare_lists ≡ self.old.claimed.spare_lists }
         ensures posted { self.new.posted ≡ self.old.posted }
     {
@@ -101,8 +108,10 @@ impl WorkLists {
     pub fn post(&mut self, dones: &[Done])
         requires spare { length dones.now ≤ self.old.posted.spare_items }
         requires begun { 0 < length self.old.posted.lists }
-        ensures lists { self.new.posted.lists ≡ on_last (λ list. list ++ dones.now) self.old.posted.lists }
-        ensures items { self.new.posted.spare_items + length dones.now ≡ self.old.posted.spare_items }
+        ensures lists { self.new.posted.lists
+            ≡ on_last (λ list. list ++ dones.now) self.old.posted.lists }
+        ensures items { self.new.posted.spare_items + length dones.now
+            ≡ self.old.posted.spare_items }
         ensures room { self.new.posted.spare_lists ≡ self.old.posted.spare_lists }
         ensures claimed { self.new.claimed ≡ self.old.claimed }
     {
@@ -131,7 +140,8 @@ impl WorkLists {
     /// Claim `number` of all lists, without its inputs and its state.
     pub fn mark(&self, number: usize) -> Mark
         requires { number < length (flat_map (λ list. list) self.now.claimed.lists) }
-        ensures { option_map mark_of (slice_get (flat_map (λ list. list) self.now.claimed.lists) number) ≡ Some result }
+        ensures { option_map mark_of (slice_get
+            (flat_map (λ list. list) self.now.claimed.lists) number) ≡ Some result }
     {
         self.work.mark(number)
     }
@@ -151,7 +161,8 @@ impl WorkLists {
     pub fn claim_mark(&self, list: usize, number: usize) -> Mark
         requires list { list < length self.now.claimed.lists }
         requires number { number < length (slice_index_or self.now.claimed.lists list []) }
-        ensures { option_map mark_of (slice_get (slice_index_or self.now.claimed.lists list []) number) ≡ Some result }
+        ensures { option_map mark_of (slice_get
+            (slice_index_or self.now.claimed.lists list []) number) ≡ Some result }
     {
         self.work.mark(self.claimed.start(list) + number)
     }
@@ -177,7 +188,8 @@ impl WorkLists {
     /// The task of result `number` of all lists, counted from 0, without its inputs and its state.
     pub fn result_mark(&self, number: usize) -> Mark
         requires { number < length (flat_map (λ list. list) self.now.posted.lists) }
-        ensures { option_map (λ done. mark_of done.task) (slice_get (flat_map (λ list. list) self.now.posted.lists) number) ≡ Some result }
+        ensures { option_map (λ done. mark_of done.task)
+            (slice_get (flat_map (λ list. list) self.now.posted.lists) number) ≡ Some result }
     {
         self.work.done_mark(number)
     }
@@ -187,8 +199,10 @@ impl WorkLists {
     pub fn list_of_result(&self, number: usize, near: usize) -> usize
         requires { number < length (flat_map (λ list. list) self.now.posted.lists) }
         ensures within { result < length self.now.posted.lists }
-        ensures starts { length (flat_map (λ list. list) (take result self.now.posted.lists)) ≤ number }
-        ensures ends { number < length (flat_map (λ list. list) (take (result + 1) self.now.posted.lists)) }
+        ensures starts { length (flat_map (λ list. list) (take result self.now.posted.lists))
+            ≤ number }
+        ensures ends { number < length (flat_map (λ list. list)
+            (take (result + 1) self.now.posted.lists)) }
     {
         self.posted.list_of(number, near)
     }
@@ -206,21 +220,24 @@ impl WorkLists {
     pub fn done_mark(&self, list: usize, number: usize) -> Mark
         requires list { list < length self.now.posted.lists }
         requires number { number < length (slice_index_or self.now.posted.lists list []) }
-        ensures { option_map (λ done. mark_of done.task) (slice_get (slice_index_or self.now.posted.lists list []) number) ≡ Some result }
+        ensures { option_map (λ done. mark_of done.task)
+            (slice_get (slice_index_or self.now.posted.lists list []) number) ≡ Some result }
     {
         self.work.done_mark(self.posted.start(list) + number)
     }
 
     /// Which lists of claims, of a block of 64, are known to be empty.
     pub fn claimed_levels(&self, block: usize) -> Levels
-        ensures { (n : ℕ) → n / 64 ≡ block → n < length self.now.claimed.lists → IsLevel result n → slice_get self.now.claimed.lists n ≡ Some [] }
+        ensures { (n : ℕ) → n / 64 ≡ block → n < length self.now.claimed.lists → IsLevel result n →
+            slice_get self.now.claimed.lists n ≡ Some [] }
     {
         self.claimed.levels(block)
     }
 
     /// Which lists of results, of a block of 64, are known to be empty.
     pub fn posted_levels(&self, block: usize) -> Levels
-        ensures { (n : ℕ) → n / 64 ≡ block → n < length self.now.posted.lists → IsLevel result n → slice_get self.now.posted.lists n ≡ Some [] }
+        ensures { (n : ℕ) → n / 64 ≡ block → n < length self.now.posted.lists → IsLevel result n →
+            slice_get self.now.posted.lists n ≡ Some [] }
     {
         self.posted.levels(block)
     }
@@ -228,7 +245,8 @@ impl WorkLists {
     /// The number of claims up to the end of a list.
     pub fn claims_through(&self, list: usize) -> usize
         requires { list < length self.now.claimed.lists }
-        ensures { result ≡ length (flat_map (λ list. list) (take (list + 1) self.now.claimed.lists)) }
+        ensures { result ≡ length (flat_map (λ list. list)
+            (take (list + 1) self.now.claimed.lists)) }
     {
         self.claimed.end(list)
     }
@@ -236,7 +254,8 @@ impl WorkLists {
     /// The number of results up to the end of a list.
     pub fn results_through(&self, list: usize) -> usize
         requires { list < length self.now.posted.lists }
-        ensures { result ≡ length (flat_map (λ list. list) (take (list + 1) self.now.posted.lists)) }
+        ensures { result ≡ length (flat_map (λ list. list)
+            (take (list + 1) self.now.posted.lists)) }
     {
         self.posted.end(list)
     }

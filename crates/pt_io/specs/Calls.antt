@@ -8,23 +8,23 @@ abbrev pub Contents : Type 0
 Contents = List ℕ → Option (List ℕ)
 
 -- a source before and after a call: the names that it was asked for, if it reports them, and its count of faults
-pub record Reading : Type 0 where
+pub record SourceCall : Type 0 where
   pub asked_before : Option (List (List ℕ))
   pub asked_now : Option (List (List ℕ))
   pub before : ℕ
   pub now : ℕ
 
 -- a sink before and after a call: its count of faults, and the bytes that it took, if it reports them
-pub record Writing : Type 0 where
+pub record SinkCall : Type 0 where
   pub before : ℕ
   pub now : ℕ
   pub written_before : Option (List ℕ)
   pub written_now : Option (List ℕ)
 
 -- what a call did with a source
-abbrev pub reading : {S : Type 0} → source.Ghosts S → S → S → Reading
+abbrev pub reading : {S : Type 0} → source.Ghosts S → S → S → SourceCall
 reading s old new = record { asked_before = s.asked old; asked_now = s.asked new; before = s.faults old; now = s.faults new }
 
 -- what a call did with a sink
-abbrev pub writing : {K : Type 0} → sink.Ghosts K → K → K → Writing
+abbrev pub writing : {K : Type 0} → sink.Ghosts K → K → K → SinkCall
 writing k old new = record { before = k.faults old; now = k.faults new; written_before = k.written old; written_now = k.written new }

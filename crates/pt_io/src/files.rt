@@ -24,7 +24,9 @@ pub trait Opener {
 
     /// A reader of the content of this name, from its beginning.
     fn open(&self, name: &str) -> io::Result<Self::Reader>
-        ensures { IfOk result (λ reader. IfSome (content self.now name.now) (λ bytes. Self.Reader.remaining reader ≡ Some bytes)) };
+        ensures { IfOk result (λ reader.
+            IfSome (content self.now name.now)
+            (λ bytes. Self.Reader.remaining reader ≡ Some bytes)) };
 }
 
 /// The files of the system by their paths, which it resolves from the current folder. It reports no contents.
@@ -99,11 +101,14 @@ impl<O: Opener + Drop> Source for FileSource<O> {
 
     fn fetch(&mut self, alloc: Global, name: &str, most: usize) -> Result<Vec<u8>, FetchFault>
         ensures within { IfOk result (λ v. vec_len v ≤ most + 1) }
-        ensures bytes { IfOk result (λ v. IfSome (O.content self.old.files name.now) (λ bytes. v.items ≡ take (most + 1) bytes)) }
+        ensures bytes { IfOk result (λ v.
+            IfSome (O.content self.old.files name.now) (λ bytes. v.items ≡ take (most + 1) bytes)) }
         ensures keeps { O.content self.new.files ≡ O.content self.old.files }
-        ensures counted { IsErrOf result FetchFault.Failed → self.new.faults ≡ counted self.old.faults }
+        ensures counted { IsErrOf result FetchFault.Failed →
+            self.new.faults ≡ counted self.old.faults }
         ensures uncounted { OnOk result (self.new.faults ≡ self.old.faults) }
-        ensures uncounted_memory { IsErrOf result FetchFault.Memory → self.new.faults ≡ self.old.faults }
+        ensures uncounted_memory { IsErrOf result FetchFault.Memory →
+            self.new.faults ≡ self.old.faults }
         ensures grows { self.old.faults ≤ self.new.faults }
         ensures failed { IsErrOf result FetchFault.Failed → Rose self.old.faults self.new.faults }
     {
@@ -121,7 +126,8 @@ impl<O: Opener + Drop> Source for FileSource<O> {
 /// The first `most + 1` bytes that a reader gives, or all if there are fewer. A read that gives none is the end.
 fn first_bytes<R: Read>(alloc: Global, reader: &mut R, most: usize) -> Result<Vec<u8>, FetchFault>
     ensures within { IfOk result (λ v. vec_len v ≤ most + 1) }
-    ensures bytes { IfOk result (λ v. IfSome (R.remaining reader.old) (λ bytes. v.items ≡ take (most + 1) bytes)) }
+    ensures bytes { IfOk result (λ v.
+        IfSome (R.remaining reader.old) (λ bytes. v.items ≡ take (most + 1) bytes)) }
 {
     let mut bytes = Vec::new(alloc);
     let mut buffer = [0u8; 16384];
@@ -145,7 +151,8 @@ fn first_bytes<R: Read>(alloc: Global, reader: &mut R, most: usize) -> Result<Ve
 fn read_some<R: Read>(reader: &mut R, buffer: &mut [u8]) -> io::Result<usize>
     ensures bound { IfOk result (λ count. count ≤ length buffer.new) }
     ensures len { length buffer.new ≡ length buffer.old }
-    ensures bytes { ReadConsumes (R.remaining reader.old) (R.remaining reader.new) result buffer.new }
+    ensures bytes { ReadConsumes (R.remaining reader.old)
+        (R.remaining reader.new) result buffer.new }
 {
     for _ in 0..TRIES {
         match reader.read(buffer) {

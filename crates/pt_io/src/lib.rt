@@ -5,7 +5,7 @@
 //! where the opener or the writer reports its own. The system's files and streams don't.
 //!
 //! Read first: `Source::fetch`, `Sink::put` and `Clock::read`. The words of their clauses are in `specs/Causes.antt` and
-//! `specs/Told.antt`.
+//! `specs/Calls.antt`.
 #![tactic(auto)]
 
 mod clock;

@@ -53,7 +53,8 @@ impl<W: Write + Drop> OutSink<W> {
         ensures empty { OnOk result (self.new.held.items ≡ []) }
         ensures none { OnOk result (vec_len self.new.held ≡ 0) }
         ensures capacity { vec_capacity self.new.held ≡ vec_capacity self.old.held }
-        ensures bytes { Keeps (append_known (W.contents self.old.out) self.old.held.items) (append_known (W.contents self.new.out) self.new.held.items) }
+        ensures bytes { Keeps (append_known (W.contents self.old.out) self.old.held.items)
+            (append_known (W.contents self.new.out) self.new.held.items) }
         ensures counted { self.new.faults ≡ counted_if (is_err result) self.old.faults }
         ensures grows { self.old.faults ≤ self.new.faults }
     {
@@ -69,8 +70,10 @@ impl<W: Write + Drop> OutSink<W> {
     fn write_past(&mut self, bytes: &[u8]) -> Result<(), PutFault>
         requires { self.old.held.items ≡ [] }
         ensures held { self.new.held ≡ self.old.held }
-        ensures all { OnOk result (Appends (W.contents self.old.out) (W.contents self.new.out) bytes.now) }
-        ensures part { OnErr result (AppendsPart (W.contents self.old.out) (W.contents self.new.out) bytes.now) }
+        ensures all { OnOk result (Appends (W.contents self.old.out)
+            (W.contents self.new.out) bytes.now) }
+        ensures part { OnErr result (AppendsPart (W.contents self.old.out)
+            (W.contents self.new.out) bytes.now) }
         ensures counted { self.new.faults ≡ counted_if (is_err result) self.old.faults }
         ensures grows { self.old.faults ≤ self.new.faults }
     {
@@ -101,8 +104,12 @@ impl<W: Write + Drop> Sink for OutSink<W> {
     ghost flushed = { λ s. s.held.items ≡ [] };
 
     fn put(&mut self, bytes: &[u8]) -> Result<(), PutFault>
-        ensures all { OnOk result (Appends (append_known (W.contents self.old.out) self.old.held.items) (append_known (W.contents self.new.out) self.new.held.items) bytes.now) }
-        ensures part { OnErr result (AppendsPart (append_known (W.contents self.old.out) self.old.held.items) (append_known (W.contents self.new.out) self.new.held.items) bytes.now) }
+        ensures all { OnOk result (Appends
+            (append_known (W.contents self.old.out) self.old.held.items)
+            (append_known (W.contents self.new.out) self.new.held.items) bytes.now) }
+        ensures part { OnErr result (AppendsPart
+            (append_known (W.contents self.old.out) self.old.held.items)
+            (append_known (W.contents self.new.out) self.new.held.items) bytes.now) }
         ensures counted { self.new.faults ≡ counted_if (is_err result) self.old.faults }
         ensures grows { self.old.faults ≤ self.new.faults }
         ensures uncounted { OnOk result (self.new.faults ≡ self.old.faults) }
@@ -120,7 +127,8 @@ impl<W: Write + Drop> Sink for OutSink<W> {
 
     fn flush(&mut self) -> Result<(), PutFault>
         ensures all { OnOk result (self.new.held.items ≡ []) }
-        ensures keeps { Keeps (append_known (W.contents self.old.out) self.old.held.items) (append_known (W.contents self.new.out) self.new.held.items) }
+        ensures keeps { Keeps (append_known (W.contents self.old.out) self.old.held.items)
+            (append_known (W.contents self.new.out) self.new.held.items) }
         ensures counted { self.new.faults ≡ counted_if (is_err result) self.old.faults }
         ensures grows { self.old.faults ≤ self.new.faults }
         ensures uncounted { OnOk result (self.new.faults ≡ self.old.faults) }
@@ -165,8 +173,10 @@ impl<W: Write + Drop> Sink for NotesSink<W> {
     ghost flushed = { λ s. Unit {0} };
 
     fn put(&mut self, bytes: &[u8]) -> Result<(), PutFault>
-        ensures all { OnOk result (Appends (W.contents self.old.out) (W.contents self.new.out) bytes.now) }
-        ensures part { OnErr result (AppendsPart (W.contents self.old.out) (W.contents self.new.out) bytes.now) }
+        ensures all { OnOk result (Appends (W.contents self.old.out)
+            (W.contents self.new.out) bytes.now) }
+        ensures part { OnErr result (AppendsPart (W.contents self.old.out)
+            (W.contents self.new.out) bytes.now) }
         ensures counted { self.new.faults ≡ counted_if (is_err result) self.old.faults }
         ensures grows { self.old.faults ≤ self.new.faults }
         ensures uncounted { OnOk result (self.new.faults ≡ self.old.faults) }

@@ -70,14 +70,24 @@ impl Sink for Page {
     ghost flushed = { λ p. Unit {0} };
 
     fn put(&mut self, bytes: &[u8]) -> Result<(), PutFault>
-        ensures refused { IsErr result ↔ IsTrue (refuses self.old.failing.items self.old.calls self.old.room (length bytes.now)) }
-        ensures taken { self.new.bytes.items ≡ self.old.bytes.items ++ take (taken self.old.failing.items self.old.calls self.old.room (length bytes.now)) bytes.now }
-        ensures room { self.new.room ≡ self.old.room - taken self.old.failing.items self.old.calls self.old.room (length bytes.now) }
+        ensures refused { IsErr result ↔
+            IsTrue (refuses self.old.failing.items self.old.calls self.old.room
+            (length bytes.now)) }
+        ensures taken { self.new.bytes.items
+            ≡ self.old.bytes.items ++ take
+            (taken self.old.failing.items self.old.calls self.old.room
+            (length bytes.now)) bytes.now }
+        ensures room { self.new.room ≡ self.old.room - taken self.old.failing.items self.old.calls
+            self.old.room (length bytes.now) }
         ensures calls { self.new.calls ≡ counted self.old.calls }
-        ensures faults { self.new.faults ≡ counted_if (refuses self.old.failing.items self.old.calls self.old.room (length bytes.now)) self.old.faults }
+        ensures faults { self.new.faults
+            ≡ counted_if (refuses self.old.failing.items self.old.calls self.old.room
+            (length bytes.now)) self.old.faults }
         ensures failing { self.new.failing ≡ self.old.failing }
-        ensures all { OnOk result (Appends (Some self.old.bytes.items) (Some self.new.bytes.items) bytes.now) }
-        ensures part { OnErr result (AppendsPart (Some self.old.bytes.items) (Some self.new.bytes.items) bytes.now) }
+        ensures all { OnOk result (Appends (Some self.old.bytes.items)
+            (Some self.new.bytes.items) bytes.now) }
+        ensures part { OnErr result (AppendsPart (Some self.old.bytes.items)
+            (Some self.new.bytes.items) bytes.now) }
         ensures grows { self.old.faults ≤ self.new.faults }
         ensures uncounted { OnOk result (self.new.faults ≡ self.old.faults) }
         ensures failed { OnErr result (Rose self.old.faults self.new.faults) }

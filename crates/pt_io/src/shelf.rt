@@ -69,20 +69,31 @@ impl Source for Shelf {
     ghost faults = { λ s. s.faults };
 
     fn fetch(&mut self, alloc: Global, name: &str, most: usize) -> Result<Vec<u8>, FetchFault>
-        ensures given { IfOk result (λ v. given self.old.contents.items self.old.failing.items (length self.old.asked.items) name.now most ≡ Some v.items) }
-        ensures refused { IsErrOf result FetchFault.Failed → given self.old.contents.items self.old.failing.items (length self.old.asked.items) name.now most ≡ None }
-        ensures counted { IsErrOf result FetchFault.Failed → self.new.faults ≡ counted self.old.faults }
+        ensures given { IfOk result (λ v.
+            given self.old.contents.items self.old.failing.items
+            (length self.old.asked.items) name.now most ≡ Some v.items) }
+        ensures refused { IsErrOf result FetchFault.Failed →
+            given self.old.contents.items self.old.failing.items
+            (length self.old.asked.items) name.now most ≡ None }
+        ensures counted { IsErrOf result FetchFault.Failed →
+            self.new.faults ≡ counted self.old.faults }
         ensures uncounted { OnOk result (self.new.faults ≡ self.old.faults) }
-        ensures uncounted_memory { IsErrOf result FetchFault.Memory → self.new.faults ≡ self.old.faults }
+        ensures uncounted_memory { IsErrOf result FetchFault.Memory →
+            self.new.faults ≡ self.old.faults }
         ensures contents { self.new.contents ≡ self.old.contents }
         ensures failing { self.new.failing ≡ self.old.failing }
-        ensures bytes { IfOk result (λ v. IfSome (content self.old.contents.items name.now) (λ bytes. v.items ≡ take (most + 1) bytes)) }
+        ensures bytes { IfOk result (λ v.
+            IfSome (content self.old.contents.items name.now)
+            (λ bytes. v.items ≡ take (most + 1) bytes)) }
         ensures keeps { content self.new.contents.items ≡ content self.old.contents.items }
         ensures grows { self.old.faults ≤ self.new.faults }
         ensures failed { IsErrOf result FetchFault.Failed → Rose self.old.faults self.new.faults }
-        ensures names { OnOk result (AddsName (Some self.old.asked.items) (Some self.new.asked.items) name.now) }
-        ensures names_failed { IsErrOf result FetchFault.Failed → AddsName (Some self.old.asked.items) (Some self.new.asked.items) name.now }
-        ensures names_memory { IsErrOf result FetchFault.Memory → self.new.asked.items ≡ self.old.asked.items }
+        ensures names { OnOk result (AddsName (Some self.old.asked.items)
+            (Some self.new.asked.items) name.now) }
+        ensures names_failed { IsErrOf result FetchFault.Failed →
+            AddsName (Some self.old.asked.items) (Some self.new.asked.items) name.now }
+        ensures names_memory { IsErrOf result FetchFault.Memory →
+            self.new.asked.items ≡ self.old.asked.items }
     {
         let call = self.asked.len() as u64;
         let Ok(text) = String::from_str(alloc, name) else {

@@ -36,12 +36,15 @@ pub trait Source {
     /// The byte past `most` lets the caller see that the content is too long. A call that fails with `Memory`
     /// isn't counted, and its name isn't recorded.
     fn fetch(&mut self, alloc: Global, name: &str, most: usize) -> Result<Vec<u8>, FetchFault>
-        ensures bytes { IfOk result (λ v. IfSome (contents self.old name.now) (λ bytes. v.items ≡ take (most + 1) bytes)) }
+        ensures bytes { IfOk result (λ v.
+            IfSome (contents self.old name.now) (λ bytes. v.items ≡ take (most + 1) bytes)) }
         ensures keeps { contents self.new ≡ contents self.old }
         ensures grows { faults self.old ≤ faults self.new }
         ensures uncounted { OnOk result (faults self.new ≡ faults self.old) }
-        ensures failed { IsErrOf result FetchFault.Failed → Rose (faults self.old) (faults self.new) }
+        ensures failed { IsErrOf result FetchFault.Failed →
+            Rose (faults self.old) (faults self.new) }
         ensures names { OnOk result (AddsName (asked self.old) (asked self.new) name.now) }
-        ensures names_failed { IsErrOf result FetchFault.Failed → AddsName (asked self.old) (asked self.new) name.now }
+        ensures names_failed { IsErrOf result FetchFault.Failed →
+            AddsName (asked self.old) (asked self.new) name.now }
         ensures names_memory { IsErrOf result FetchFault.Memory → asked self.new ≡ asked self.old };
 }

@@ -27,7 +27,7 @@ use Rattle.pt_semantics.specs.Paced.{paced_by}
 use Rattle.pt_semantics.specs.Rounds.{Makes, Round, IsTimely}
 use Rattle.pt_semantics.specs.Bounds.{link_bound}
 use Rattle.pt_semantics.specs.Kept.{IsSingle}
-use Rattle.pt_semantics.specs.Visits.{IsVisit, Made, Together}
+use Rattle.pt_semantics.specs.Visits.{IsVisit, VisitRecord, RunState}
 use Rattle.pt_semantics.proofs.Lookups.{same_some, Each-from, Each-append, IsIn-append, IsIn-append_left, IsIn-append_right}
 use Rattle.pt_laws.specs.NearClocks.{AreNear}
 use Rattle.pt_laws.proofs.NearClocks.{one_is_near, sent_in_bound}
@@ -35,7 +35,7 @@ use Rattle.pt_laws.proofs.PacedClosed.{sends_in_time}
 use Rattle.pt_laws.proofs.Paces.{InBound, IsForeign, Later, Paces, in_on_link, takes_own, turn_paces}
 
 -- all platforms together, each at its own clock's reading: nothing that is still to be done was to be done before it
-pub record OnwardNear (g : Graph) (level : ℕ → ℕ) (rows : ℕ → List Row) (offset : Unit → Option ℤ) (c : ℕ → ℕ) (x : Together) : Type 0 where
+pub record OnwardNear (g : Graph) (level : ℕ → ℕ) (rows : ℕ → List Row) (offset : Unit → Option ℤ) (c : ℕ → ℕ) (x : RunState) : Type 0 where
   pub legal : (i : ℕ) → i < length g.platforms → LegalOnTime g level i (opened g i rows) (x.did i) (x.at i)
   pub later : (i : ℕ) → i < length g.platforms → Later g offset (c i) i (x.at i)
   pub way : (l : ℕ) (link : Link) (t : Tag) (v : ℤ) → slice_get g.links l ≡ Some link → IsIn (Event t v) (x.on_way l) → c (platform_of g link.to) ≤ t.time + link_bound g link
@@ -43,11 +43,11 @@ pub record OnwardNear (g : Graph) (level : ℕ → ℕ) (rows : ℕ → List Row
   pub timed : (i : ℕ) → i < length g.platforms → Each (IsTimely g offset) (x.did i)
 
 -- the same at one common reading
-abbrev pub Onward : Graph → (ℕ → ℕ) → (ℕ → List Row) → (Unit → Option ℤ) → ℕ → Together → Type 0
+abbrev pub Onward : Graph → (ℕ → ℕ) → (ℕ → List Row) → (Unit → Option ℤ) → ℕ → RunState → Type 0
 Onward g level rows offset c x = OnwardNear g level rows offset (λ i. c) x
 
 -- one turn of a platform at reading r: it takes some of the messages on their way, each link's first, and what it sends is on its way
-pub record Advances (g : Graph) (level : ℕ → ℕ) (r : ℕ) (x : Together) (m : Made) (y : Together) : Type 0 where
+pub record Advances (g : Graph) (level : ℕ → ℕ) (r : ℕ) (x : RunState) (m : VisitRecord) (y : RunState) : Type 0 where
   pub single : IsSingle m.turn
   pub last : m.turn.last ≡ r
   pub is : IsTurn g level m.platform (x.at m.platform) m.turn m.late (y.at m.platform)
@@ -59,7 +59,7 @@ pub record Advances (g : Graph) (level : ℕ → ℕ) (r : ℕ) (x : Together) (
   pub sends : (l : ℕ) → y.on_way l ≡ rest l ++ on_link l m.turn.sent
 
 -- so does a visit
-pub visit_advances : (g : Graph) (level : ℕ → ℕ) (most : ℕ) (room : ℕ → ℕ) (r : ℕ) (x : Together) (m : Made) (y : Together) → IsVisit g level most room r x m y → Advances g level r x m y
+pub visit_advances : (g : Graph) (level : ℕ → ℕ) (most : ℕ) (room : ℕ → ℕ) (r : ℕ) (x : RunState) (m : VisitRecord) (y : RunState) → IsVisit g level most room r x m y → Advances g level r x m y
 visit_advances g level most room r x m y k = record {
   single = record { once = k.once; one_reading = k.first ∙ sym k.last; fits = subst (λ n. n < 2 ^ 64) (sym k.last) k.fits };
   last = k.last;
@@ -73,31 +73,31 @@ visit_advances g level most room r x m y k = record {
 }
 
 -- a round of platforms, each at its own clock's reading: each of the next n, from i on, makes one turn, unless it is finished
-abbrev pub AdvanceRound : Graph → (ℕ → ℕ) → (ℕ → ℕ) → ℕ → ℕ → Together → List Made → Together → Type 0
+abbrev pub AdvanceRound : Graph → (ℕ → ℕ) → (ℕ → ℕ) → ℕ → ℕ → RunState → List VisitRecord → RunState → Type 0
 AdvanceRound g level c zero i x ms y = (ms ≡ []) × (y ≡ x)
 AdvanceRound g level c (suc n) i x ms y =
     (IsFinished g i (x.at i) × AdvanceRound g level c n (suc i) x ms y)
-    ⊎ ((IsFinished g i (x.at i) → ⊥) × (m : Made) × (rest : List Made) × (mid : Together) × (ms ≡ m ∷ rest) × (m.platform ≡ i) × Advances g level (c m.platform) x m mid × AdvanceRound g level c n (suc i) mid rest y)
+    ⊎ ((IsFinished g i (x.at i) → ⊥) × (m : VisitRecord) × (rest : List VisitRecord) × (mid : RunState) × (ms ≡ m ∷ rest) × (m.platform ≡ i) × Advances g level (c m.platform) x m mid × AdvanceRound g level c n (suc i) mid rest y)
 
-pub makes_advances : (g : Graph) (level : ℕ → ℕ) (c : ℕ) (x : Together) (m : Made) (y : Together) → Makes g level c x m y → Advances g level c x m y
+pub makes_advances : (g : Graph) (level : ℕ → ℕ) (c : ℕ) (x : RunState) (m : VisitRecord) (y : RunState) → Makes g level c x m y → Advances g level c x m y
 makes_advances g level c x m y k = visit_advances g level 64 (λ l. 64 - length (x.on_way l)) c x m y k
 
 -- a round at one common reading is one
-pub round_advances : (g : Graph) (level : ℕ → ℕ) (c n i : ℕ) (x : Together) (ms : List Made) (y : Together) → Round g level c n i x ms y → AdvanceRound g level (λ j. c) n i x ms y
+pub round_advances : (g : Graph) (level : ℕ → ℕ) (c n i : ℕ) (x : RunState) (ms : List VisitRecord) (y : RunState) → Round g level c n i x ms y → AdvanceRound g level (λ j. c) n i x ms y
 round_advances g level c zero i x ms y r = r
 round_advances g level c (suc n) i x ms y r =
     ⊎_elim
     (λ (skip : IsFinished g i (x.at i) × Round g level c n (suc i) x ms y). inl (skip.0, round_advances g level c n (suc i) x ms y skip.1))
-    (λ (one : (IsFinished g i (x.at i) → ⊥) × (m : Made) × (rest : List Made) × (mid : Together) × (ms ≡ m ∷ rest) × (m.platform ≡ i) × Makes g level c x m mid × Round g level c n (suc i) mid rest y).
+    (λ (one : (IsFinished g i (x.at i) → ⊥) × (m : VisitRecord) × (rest : List VisitRecord) × (mid : RunState) × (ms ≡ m ∷ rest) × (m.platform ≡ i) × Makes g level c x m mid × Round g level c n (suc i) mid rest y).
     inr (one.0, one.1, one.2, one.3, one.4, one.5, makes_advances g level c x one.1 one.3 one.6, round_advances g level c n (suc i) one.3 one.2 y one.7))
     r
 
 -- all platforms together, with other messages on their way
-abbrev pub with_way : Together → (ℕ → List Message) → Together
+abbrev pub with_way : RunState → (ℕ → List Message) → RunState
 with_way x way = record { at = x.at; did = x.did; on_way = way }
 
 -- and so does one that sees only some of the messages on their way, each link's first: the others are held back, and what it sends comes after them
-pub part_advances : (g : Graph) (level : ℕ → ℕ) (most : ℕ) (room : ℕ → ℕ) (r : ℕ) (x : Together) (m : Made) (y : Together) (held before after : ℕ → List Message) → IsVisit g level most room r x m y →
+pub part_advances : (g : Graph) (level : ℕ → ℕ) (most : ℕ) (room : ℕ → ℕ) (r : ℕ) (x : RunState) (m : VisitRecord) (y : RunState) (held before after : ℕ → List Message) → IsVisit g level most room r x m y →
     ((l : ℕ) → before l ≡ x.on_way l ++ held l) → ((l : ℕ) → after l ≡ drop (length (on_link l m.turn.taken)) (before l) ++ on_link l m.turn.sent) → Advances g level r (with_way x before) m (with_way y after)
 part_advances g level most room r x m y held before after k all added = record {
   single = record { once = k.once; one_reading = k.first ∙ sym k.last; fits = subst (λ n. n < 2 ^ 64) (sym k.last) k.fits };
@@ -134,7 +134,7 @@ pub cases_same : (m n : ℕ) → (m ≡ n) ⊎ (m ≢ n)
 cases_same m n = ⊎_elim (λ (l : m < n). inr (λ e. absurd (omega arith))) (λ (k : n ≤ m). ⊎_elim (λ (l : n < m). inr (λ e. absurd (omega arith))) (λ (j : m ≤ n). inl (omega arith)) (cases_lt n m)) (cases_lt m n)
 
 module _ (g : Graph) (level : ℕ → ℕ) (rows : ℕ → List Row) (offset : Unit → Option ℤ) (has : (u : Unit) → HasOffset g u (offset u)) (wired : IsWired g) (feasible : IsFeasible g) (c : ℕ → ℕ) (near : AreNear g c) where
-  pub advance_onward : (x y : Together) (m : Made) → m.platform < length g.platforms → OnwardNear g level rows offset c x → Advances g level (c m.platform) x m y → (m.late ≡ false) × OnwardNear g level rows offset c y
+  pub advance_onward : (x y : RunState) (m : VisitRecord) → m.platform < length g.platforms → OnwardNear g level rows offset c x → Advances g level (c m.platform) x m y → (m.late ≡ false) × OnwardNear g level rows offset c y
   advance_onward x y m lt h k = (
     tp.not_late,
     record {
@@ -245,21 +245,21 @@ module _ (g : Graph) (level : ℕ → ℕ) (rows : ℕ → List Row) (offset : U
           ∙ ap (λ z. all_taken l (x.did (platform_of g link.to)) ++ z) (sym (tp.taken_own l link at (λ home. ne home))))
           (cases_same (platform_of g link.to) m.platform)
 
-  pub advance_round_onward : (n i : ℕ) (x y : Together) (ms : List Made) → n + i ≤ length g.platforms → OnwardNear g level rows offset c x → AdvanceRound g level c n i x ms y → Each (λ (m : Made). m.late ≡ false) ms × OnwardNear g level rows offset c y
-  advance_round_onward zero i x y ms le h (e, same) = (subst (Each (λ (m : Made). m.late ≡ false)) (sym e) tt, subst (OnwardNear g level rows offset c) (sym same) h)
+  pub advance_round_onward : (n i : ℕ) (x y : RunState) (ms : List VisitRecord) → n + i ≤ length g.platforms → OnwardNear g level rows offset c x → AdvanceRound g level c n i x ms y → Each (λ (m : VisitRecord). m.late ≡ false) ms × OnwardNear g level rows offset c y
+  advance_round_onward zero i x y ms le h (e, same) = (subst (Each (λ (m : VisitRecord). m.late ≡ false)) (sym e) tt, subst (OnwardNear g level rows offset c) (sym same) h)
   advance_round_onward (suc n) i x y ms le h r =
       ⊎_elim
       (λ (done : IsFinished g i (x.at i) × AdvanceRound g level c n (suc i) x ms y). advance_round_onward n (suc i) x y ms (omega (arith, le)) h done.1)
-      (λ (one : (IsFinished g i (x.at i) → ⊥) × (m : Made) × (rest : List Made) × (mid : Together) × (ms ≡ m ∷ rest) × (m.platform ≡ i) × Advances g level (c m.platform) x m mid × AdvanceRound g level c n (suc i) mid rest y).
+      (λ (one : (IsFinished g i (x.at i) → ⊥) × (m : VisitRecord) × (rest : List VisitRecord) × (mid : RunState) × (ms ≡ m ∷ rest) × (m.platform ≡ i) × Advances g level (c m.platform) x m mid × AdvanceRound g level c n (suc i) mid rest y).
       let lt : one.1.platform < length g.platforms = subst (λ z. z < length g.platforms) (sym one.5) (omega (arith, le)) in
       let step = advance_onward x one.3 one.1 lt h one.6 in
       let on = advance_round_onward n (suc i) one.3 y one.2 (omega (arith, le)) step.1 one.7 in
-      (subst (Each (λ (m : Made). m.late ≡ false)) (sym one.4) (step.0, on.0), on.1))
+      (subst (Each (λ (m : VisitRecord). m.late ≡ false)) (sym one.4) (step.0, on.0), on.1))
       r
 
 module _ (g : Graph) (level : ℕ → ℕ) (rows : ℕ → List Row) (offset : Unit → Option ℤ) (has : (u : Unit) → HasOffset g u (offset u)) (wired : IsWired g) (feasible : IsFeasible g) (c : ℕ) where
-  pub makes_onward : (x y : Together) (m : Made) → m.platform < length g.platforms → Onward g level rows offset c x → Makes g level c x m y → (m.late ≡ false) × Onward g level rows offset c y
+  pub makes_onward : (x y : RunState) (m : VisitRecord) → m.platform < length g.platforms → Onward g level rows offset c x → Makes g level c x m y → (m.late ≡ false) × Onward g level rows offset c y
   makes_onward x y m lt h k = advance_onward g level rows offset has wired feasible (λ i. c) (one_is_near g c) x y m lt h (makes_advances g level c x m y k)
 
-  pub round_onward : (n i : ℕ) (x y : Together) (ms : List Made) → n + i ≤ length g.platforms → Onward g level rows offset c x → Round g level c n i x ms y → Each (λ (m : Made). m.late ≡ false) ms × Onward g level rows offset c y
+  pub round_onward : (n i : ℕ) (x y : RunState) (ms : List VisitRecord) → n + i ≤ length g.platforms → Onward g level rows offset c x → Round g level c n i x ms y → Each (λ (m : VisitRecord). m.late ≡ false) ms × Onward g level rows offset c y
   round_onward n i x y ms le h r = advance_round_onward g level rows offset has wired feasible (λ j. c) (one_is_near g c) n i x y ms le h (round_advances g level c n i x ms y r)

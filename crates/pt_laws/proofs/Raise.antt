@@ -30,7 +30,7 @@ use Rattle.pt_tags.specs.declared.message.Message.TheVariants.{Event}
 use Rattle.pt_semantics.specs.Rows.{FitRows, NeverFalls}
 use Rattle.pt_semantics.specs.Paced.{paced_by, IsCandidate}
 use Rattle.pt_semantics.specs.Rounds.{Makes}
-use Rattle.pt_semantics.specs.Visits.{IsVisit, Made, Together, together_at_start}
+use Rattle.pt_semantics.specs.Visits.{IsVisit, VisitRecord, RunState, run_at_start}
 use Rattle.pt_laws.proofs.Induction.{by_three, Lower}
 use Rattle.pt_semantics.proofs.Lookups.{none_some, Each-in}
 use Rattle.pt_semantics.proofs.Claiming.{has_event}
@@ -143,7 +143,7 @@ takes_busy : (g : Graph) (level : ℕ → ℕ) (i : ℕ) (s new : State) → Tak
 takes_busy g level i s new h = h.1
 
 -- where a link has no room for a message, there are messages on their way
-pub quiet_visit : (g : Graph) (level : ℕ → ℕ) (most : ℕ) (room : ℕ → ℕ) (c : ℕ) (x y : Together) (m : Made) → ((l : ℕ) → room l ≡ 0 → x.on_way l ≡ [] → ⊥) → is_quiet m.turn ≡ true → m.late ≡ false → m.fault ≡ false → (y.at m.platform).closed ≡ (x.at m.platform).closed →
+pub quiet_visit : (g : Graph) (level : ℕ → ℕ) (most : ℕ) (room : ℕ → ℕ) (c : ℕ) (x y : RunState) (m : VisitRecord) → ((l : ℕ) → room l ≡ 0 → x.on_way l ≡ [] → ⊥) → is_quiet m.turn ≡ true → m.late ≡ false → m.fault ≡ false → (y.at m.platform).closed ≡ (x.at m.platform).closed →
     IsVisit g level most room c x m y → Rests g c m.platform (y.at m.platform) x.on_way × ((l : ℕ) → y.on_way l ≡ x.on_way l)
 quiet_visit g level most room c x y m full quiet on_time fine closed k = (
   record {
@@ -247,7 +247,7 @@ quiet_visit g level most room c x y m full quiet on_time fine closed k = (
         o)
         (k.is.greedy claimed_none)
 
-pub quiet_makes : (g : Graph) (level : ℕ → ℕ) (c : ℕ) (x y : Together) (m : Made) → is_quiet m.turn ≡ true → m.late ≡ false → m.fault ≡ false → (y.at m.platform).closed ≡ (x.at m.platform).closed → Makes g level c x m y → Rests g c m.platform (y.at m.platform) x.on_way × ((l : ℕ) → y.on_way l ≡ x.on_way l)
+pub quiet_makes : (g : Graph) (level : ℕ → ℕ) (c : ℕ) (x y : RunState) (m : VisitRecord) → is_quiet m.turn ≡ true → m.late ≡ false → m.fault ≡ false → (y.at m.platform).closed ≡ (x.at m.platform).closed → Makes g level c x m y → Rests g c m.platform (y.at m.platform) x.on_way × ((l : ℕ) → y.on_way l ≡ x.on_way l)
 quiet_makes g level c x y m quiet on_time fine closed k = quiet_visit g level 64 (λ l. 64 - length (x.on_way l)) c x y m (λ l. full (x.on_way l)) quiet on_time fine closed k
   where
     full : (way : List Message) → 64 - length way ≡ 0 → way ≡ [] → ⊥
@@ -256,7 +256,7 @@ quiet_makes g level c x y m quiet on_time fine closed k = quiet_visit g level 64
 
 -- platforms that have nothing open and nothing to send go on to later readings, up to what they have still to do
 module _ (g : Graph) (level : ℕ → ℕ) (rows : ℕ → List Row) (offset : Unit → Option ℤ) (has : (u : Unit) → HasOffset g u (offset u)) (wired : IsWired g) (up : HasLevels g level) (fits : FitRows g rows) where
-  pub raise_near : (c b : ℕ → ℕ) (y : Together) → OnwardNear g level rows offset c y → ((i : ℕ) → i < length g.platforms → c i ≤ b i) → ((i : ℕ) → i < length g.platforms → (u : Unit) → (y.at i).busy u ≡ None) → ((i : ℕ) → i < length g.platforms → (l : ℕ) → (y.at i).outbox l ≡ []) →
+  pub raise_near : (c b : ℕ → ℕ) (y : RunState) → OnwardNear g level rows offset c y → ((i : ℕ) → i < length g.platforms → c i ≤ b i) → ((i : ℕ) → i < length g.platforms → (u : Unit) → (y.at i).busy u ≡ None) → ((i : ℕ) → i < length g.platforms → (l : ℕ) → (y.at i).outbox l ≡ []) →
       ((i : ℕ) → i < length g.platforms → (y.at i).closed ≡ false → (d : ℕ) → IsCandidate g i (y.at i) d → b i ≤ d) →
       ((l : ℕ) (link : Link) (t : Tag) (v : ℤ) → slice_get g.links l ≡ Some link → IsIn (Event t v) (y.on_way l) → b (platform_of g link.to) ≤ t.time + link_bound g link) → OnwardNear g level rows offset b y
   raise_near c b y h rises free sent next way = record {
@@ -269,7 +269,7 @@ module _ (g : Graph) (level : ℕ → ℕ) (rows : ℕ → List Row) (offset : U
         (next i lt);
   }
 
-  pub start_near : (b : ℕ → ℕ) → ((i : ℕ) → i < length g.platforms → (d : ℕ) → IsCandidate g i (opened g i rows) d → b i ≤ d) → OnwardNear g level rows offset b (together_at_start g rows)
+  pub start_near : (b : ℕ → ℕ) → ((i : ℕ) → i < length g.platforms → (d : ℕ) → IsCandidate g i (opened g i rows) d → b i ≤ d) → OnwardNear g level rows offset b (run_at_start g rows)
   start_near b next = record {
     legal = λ i lt. refl;
     later = λ i lt. later_from g level i rows [] (opened g i rows) (b i) offset has wired up fits refl (λ u. refl) (λ l. refl) (λ p e. absurd (none_some p e)) (λ e d cand. next i lt d cand);

@@ -26,9 +26,14 @@ impl Model for Outlet {
 
     ghost Value = { SentBy };
 
-    ghost view = { λ o. record { link = (arc_value o.line).table.shared.table_id; limits = (known o.pass).limits; sent = (known o.pass).sent } };
+    ghost view = { λ o. record {
+      link = (arc_value o.line).table.shared.table_id;
+      limits = (known o.pass).limits;
+      sent = (known o.pass).sent;
+    } };
 
-    ghost invariant = { λ o. IsPassOf (arc_value o.line) o.pass × ((known o.pass).sends ≡ true) × (ruled_capacity (arc_value o.line) ≡ 64) };
+    ghost invariant = { λ o. IsPassOf (arc_value o.line) o.pass × ((known o.pass).sends ≡ true)
+        × (ruled_capacity (arc_value o.line) ≡ 64) };
 }
 
 /// The end that takes. Contracts see which link it belongs to and what was taken.
@@ -46,9 +51,14 @@ impl Model for Inlet {
 
     ghost Value = { TakenBy };
 
-    ghost view = { λ o. record { link = (arc_value o.line).table.shared.table_id; limits = (known o.pass).limits; taken = (known o.pass).taken } };
+    ghost view = { λ o. record {
+      link = (arc_value o.line).table.shared.table_id;
+      limits = (known o.pass).limits;
+      taken = (known o.pass).taken;
+    } };
 
-    ghost invariant = { λ o. IsPassOf (arc_value o.line) o.pass × ((known o.pass).takes ≡ true) × (ruled_capacity (arc_value o.line) ≡ 64) };
+    ghost invariant = { λ o. IsPassOf (arc_value o.line) o.pass × ((known o.pass).takes ≡ true)
+        × (ruled_capacity (arc_value o.line) ≡ 64) };
 }
 
 /// What a settled link shows: what was sent, what was taken, and what is left.
@@ -65,9 +75,15 @@ impl Model for Settled {
 
     ghost Value = { Parted };
 
-    ghost view = { λ s. record { sent = (known s.pass).sent; taken = (known s.pass).taken; left = drop (length (known s.pass).taken) (known s.pass).sent } };
+    ghost view = { λ s. record {
+      sent = (known s.pass).sent;
+      taken = (known s.pass).taken;
+      left = drop (length (known s.pass).taken) (known s.pass).sent;
+    } };
 
-    ghost invariant = { λ s. ((known s.pass).sent ≡ (known s.pass).taken ++ drop (length (known s.pass).taken) (known s.pass).sent) × (s.left ≡ length (drop (length (known s.pass).taken) (known s.pass).sent)) };
+    ghost invariant = { λ s. ((known s.pass).sent
+        ≡ (known s.pass).taken ++ drop (length (known s.pass).taken) (known s.pass).sent)
+        × (s.left ≡ length (drop (length (known s.pass).taken) (known s.pass).sent)) };
 }
 
 /// A new link of 64 places, whose receiver has these bounds.
@@ -103,7 +119,8 @@ impl Outlet {
     pub fn push<R: Wait>(&mut self, rt: &R, message: Message) -> Result<(), Message>
         requires orderly { IsOrderlyBy self.old.limits (self.old.sent ++ message ∷ []) }
         ensures link { (self.new.link ≡ self.old.link) × (self.new.limits ≡ self.old.limits) }
-        ensures sent { MatchResult result (λ _. self.new.sent ≡ self.old.sent ++ message ∷ []) (λ x. (x ≡ message) × (self.new.sent ≡ self.old.sent) × (64 ≤ length self.old.sent)) }
+        ensures sent { MatchResult result (λ _. self.new.sent ≡ self.old.sent ++ message ∷ [])
+            (λ x. (x ≡ message) × (self.new.sent ≡ self.old.sent) × (64 ≤ length self.old.sent)) }
     {
         self.line.push_as::<Sends, R>(rt, &mut self.pass, message)
     }
@@ -113,7 +130,8 @@ impl Inlet {
     /// Takes the oldest message; `None` if none is found.
     pub fn take<R: Wait>(&mut self, rt: &R) -> Option<Message>
         ensures link { (self.new.link ≡ self.old.link) × (self.new.limits ≡ self.old.limits) }
-        ensures taken { MatchOption result (self.new.taken ≡ self.old.taken) (λ x. self.new.taken ≡ self.old.taken ++ x ∷ []) }
+        ensures taken { MatchOption result (self.new.taken ≡ self.old.taken)
+            (λ x. self.new.taken ≡ self.old.taken ++ x ∷ []) }
         ensures orderly { IfSome result (λ x. IsOrderlyBy self.old.limits self.new.taken) }
     {
         self.line.pop_as::<Takes, R>(rt, &mut self.pass)

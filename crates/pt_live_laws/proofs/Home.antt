@@ -13,7 +13,7 @@ use Rattle.pt_semantics.specs.Platform.{State, opened, raised}
 use Rattle.pt_semantics.specs.Ranks.{AreLevels}
 use Rattle.pt_semantics.specs.Rows.{FitRows}
 use Rattle.pt_semantics.specs.Units.{unit_of}
-use Rattle.pt_semantics.specs.Visits.{IsVisit, Made, Together}
+use Rattle.pt_semantics.specs.Visits.{IsVisit, VisitRecord, RunState}
 use Rattle.pt_semantics.specs.Wired.{IsWired}
 use Rattle.pt_semantics.proofs.Claiming.{event_found, without_found}
 use Rattle.pt_semantics.proofs.Longest.{levels_grow}
@@ -31,16 +31,16 @@ claims_home g i r (task ∷ tasks) s new home (next, rest) =
     )
 
 module _ (g : Graph) (level : ℕ → ℕ) (rows : ℕ → List Row) (wired : IsWired g) (are : AreLevels g level) (fits : FitRows g rows) where
-  visit_home : (most r : ℕ) (room : ℕ → ℕ) (x y : Together) (m : Made) → Sound g level rows x → IsVisit g level most room r x m y → Each (λ (task : Task). platform_of g task.actor ≡ m.platform) m.turn.claimed
+  visit_home : (most r : ℕ) (room : ℕ → ℕ) (x y : RunState) (m : VisitRecord) → Sound g level rows x → IsVisit g level most room r x m y → Each (λ (task : Task). platform_of g task.actor ≡ m.platform) m.turn.claimed
   visit_home most r room x y m h v =
       let legal = goes_legal g level m.platform (x.did m.platform) (opened g m.platform rows) (x.at m.platform) (h.goes m.platform) in
       let home = home_in_turn g level m.platform rows (x.did m.platform) (x.at m.platform) (y.at m.platform) m.turn m.late wired (levels_grow g level are) fits legal v.is in
       claims_home g m.platform m.turn.last m.turn.claimed (raised v.is.got m.turn.last) v.is.ready (λ a p t w found. (home.waits a p t w found).0) v.is.claims
 
-  fine : (y : Together) (m : Made) → (IsOver g m y → ⊥) → m.fault ≡ false
+  fine : (y : RunState) (m : VisitRecord) → (IsOver g m y → ⊥) → m.fault ≡ false
   fine y m going = ⊎_elim (λ (e : m.fault ≡ true). absurd (going (inr e))) (λ (e : m.fault ≡ false). e) (cases_Bool m.fault)
 
-  pub visits_home : (most i : ℕ) (clocks : ℕ → List ℕ) (x y : Together) (ms : List Made) → Sound g level rows x → Visits g level most i clocks x ms y → AtHome g ms
+  pub visits_home : (most i : ℕ) (clocks : ℕ → List ℕ) (x y : RunState) (ms : List VisitRecord) → Sound g level rows x → Visits g level most i clocks x ms y → AtHome g ms
   visits_home most i clocks x y [] h v = absurd v
   visits_home most i clocks x y (m ∷ []) h (r, at, given, visit, over, none) = (visit_home most r (λ l. 64) x y m h visit, tt)
   visits_home most i clocks x y (m ∷ n ∷ ms) h (r, later, mid, at, given, visit, going, rest) = (

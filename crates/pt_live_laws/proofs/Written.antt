@@ -8,7 +8,7 @@ use Rattle.pt_types.specs.Lookups.{platform_of}
 use Rattle.pt_semantics.specs.FixedOrder.{Visits, platform_after, put_clock}
 use Rattle.pt_semantics.specs.Lists.{Each}
 use Rattle.pt_semantics.specs.Turn.{Turn}
-use Rattle.pt_semantics.specs.Visits.{IsVisit, Made, Together, together_at_start}
+use Rattle.pt_semantics.specs.Visits.{IsVisit, VisitRecord, RunState, run_at_start}
 use Rattle.pt_live_laws.specs.Written.{AtHome, claimed_by, claimed_in, of_actor}
 
 claimed_push : (turns : List Turn) (turn : Turn) → claimed_by (turns ++ turn ∷ []) ≡ claimed_by turns ++ turn.claimed
@@ -43,7 +43,7 @@ pub same_or_not : (m n : ℕ) → (m ≡ n) ⊎ (m ≡ n → ⊥)
 same_or_not m n = ⊎_elim (λ (l : m < n). inr (λ e. absurd (omega arith))) (λ (k : n ≤ m). ⊎_elim (λ (l : n < m). inr (λ e. absurd (omega arith))) (λ (j : m ≤ n). inl (omega arith)) (cases_lt n m)) (cases_lt m n)
 
 module _ (g : Graph) (level : ℕ → ℕ) (most : ℕ) (a : ℕ) where
-  one : (room : ℕ → ℕ) (r : ℕ) (x y : Together) (m : Made) → IsVisit g level most room r x m y → Each (λ (task : Task). platform_of g task.actor ≡ m.platform) m.turn.claimed →
+  one : (room : ℕ → ℕ) (r : ℕ) (x y : RunState) (m : VisitRecord) → IsVisit g level most room r x m y → Each (λ (task : Task). platform_of g task.actor ≡ m.platform) m.turn.claimed →
       of_actor a (claimed_by (y.did (platform_of g a))) ≡ of_actor a (claimed_by (x.did (platform_of g a))) ++ of_actor a m.turn.claimed
   one room r x y m v home = ⊎_elim
       (λ (here : platform_of g a ≡ m.platform).
@@ -55,7 +55,7 @@ module _ (g : Graph) (level : ℕ → ℕ) (most : ℕ) (a : ℕ) where
       ∙ ap (λ z. of_actor a (claimed_by (x.did (platform_of g a))) ++ z) (sym (none_of g a m.platform m.turn.claimed there home)))
       (same_or_not (platform_of g a) m.platform)
 
-  pub visits_in_order : (i : ℕ) (clocks : ℕ → List ℕ) (x : Together) (made : List Made) (y : Together) → Visits g level most i clocks x made y → AtHome g made →
+  pub visits_in_order : (i : ℕ) (clocks : ℕ → List ℕ) (x : RunState) (made : List VisitRecord) (y : RunState) → Visits g level most i clocks x made y → AtHome g made →
       of_actor a (claimed_by (y.did (platform_of g a))) ≡ of_actor a (claimed_by (x.did (platform_of g a))) ++ of_actor a (claimed_in made)
   visits_in_order i clocks x [] y none home = absurd none
   visits_in_order i clocks x (m ∷ []) y (r, at, read, v, over, used) home =
@@ -67,6 +67,6 @@ module _ (g : Graph) (level : ℕ → ℕ) (most : ℕ) (a : ℕ) where
       ∙ append_assoc (of_actor a (claimed_by (x.did (platform_of g a)))) (of_actor a m.turn.claimed) (of_actor a (claimed_in (n ∷ ms)))
       ∙ ap (λ z. of_actor a (claimed_by (x.did (platform_of g a))) ++ z) (sym (of_actor_append a m.turn.claimed (claimed_in (n ∷ ms))))
 
-pub lines_in_order : (g : Graph) (level : ℕ → ℕ) (most : ℕ) (clocks : ℕ → List ℕ) (rows : ℕ → List Row) (made : List Made) (y : Together) →
-    Visits g level most 0 clocks (together_at_start g rows) made y → AtHome g made → (a : ℕ) → of_actor a (claimed_in made) ≡ of_actor a (claimed_by (y.did (platform_of g a)))
-lines_in_order g level most clocks rows made y visits home a = sym (visits_in_order g level most a 0 clocks (together_at_start g rows) made y visits home)
+pub lines_in_order : (g : Graph) (level : ℕ → ℕ) (most : ℕ) (clocks : ℕ → List ℕ) (rows : ℕ → List Row) (made : List VisitRecord) (y : RunState) →
+    Visits g level most 0 clocks (run_at_start g rows) made y → AtHome g made → (a : ℕ) → of_actor a (claimed_in made) ≡ of_actor a (claimed_by (y.did (platform_of g a)))
+lines_in_order g level most clocks rows made y visits home a = sym (visits_in_order g level most a 0 clocks (run_at_start g rows) made y visits home)

@@ -31,7 +31,7 @@ use Rattle.pt_semantics.specs.Ranks.{AreLevels}
 use Rattle.pt_semantics.specs.Rounds.{IsWholeRun}
 use Rattle.pt_semantics.specs.Rows.{FitRows, FitsRow}
 use Rattle.pt_semantics.specs.Taking.{value_of}
-use Rattle.pt_semantics.specs.Visits.{Together}
+use Rattle.pt_semantics.specs.Visits.{RunState}
 use Rattle.pt_semantics.specs.Wired.{IsWired}
 use Rattle.pt_laws.proofs.Counting.{counted}
 use Rattle.pt_laws.proofs.Finish as finish
@@ -153,7 +153,7 @@ rising_few n low (x ∷ xs) le rises each =
     after : (s t : Tag) (j k : ℕ) → Before s t → s.step ≡ 0 → t.step ≡ 0 → s.time ≡ 100 * j → t.time ≡ 100 * k → j + 1 ≤ k
     after s t j k before zs zt es et = grind arith
 
-module _ (n : ℕ) (few : n ≤ 100) (level : ℕ → ℕ) (offset : Unit → Option ℤ) (are : AreLevels (made_graph n) level) (has : (u : Unit) → HasOffset (made_graph n) u (offset u)) (c : ℕ) (y : Together) where
+module _ (n : ℕ) (few : n ≤ 100) (level : ℕ → ℕ) (offset : Unit → Option ℤ) (are : AreLevels (made_graph n) level) (has : (u : Unit) → HasOffset (made_graph n) u (offset u)) (c : ℕ) (y : RunState) where
   abbrev g : Graph
   g = made_graph n
 
@@ -297,7 +297,7 @@ module _ (n : ℕ) (few : n ≤ 100) (level : ℕ → ℕ) (offset : Unit → Op
         of_actor a false e = omega arith
 
 -- so no platform of a whole paced run makes all the claims that it may
-pub never_long : (n : ℕ) → n ≤ 100 → (level : ℕ → ℕ) (offset : Unit → Option ℤ) → AreLevels (made_graph n) level → ((u : Unit) → HasOffset (made_graph n) u (offset u)) → (y : Together) → IsWholeRun (made_graph n) level (of_run (made_graph n) (made_rows n)) y → (i : ℕ) → i < 4 → (y.at i).claims < usual_claims
+pub never_long : (n : ℕ) → n ≤ 100 → (level : ℕ → ℕ) (offset : Unit → Option ℤ) → AreLevels (made_graph n) level → ((u : Unit) → HasOffset (made_graph n) u (offset u)) → (y : RunState) → IsWholeRun (made_graph n) level (of_run (made_graph n) (made_rows n)) y → (i : ℕ) → i < 4 → (y.at i).claims < usual_claims
 never_long n few level offset are has y run i lt =
     below (y.at i).claims (platform_few n few level offset are has run.reading y on i lt)
   where

@@ -13,7 +13,7 @@ use Rattle.pt_semantics.specs.Ranks.{AreLevels}
 use Rattle.pt_semantics.specs.Rounds.{IsTimely, IsWholeRun}
 use Rattle.pt_semantics.specs.Turn.{Turn, is_quiet, joined}
 use Rattle.pt_semantics.specs.Units.{unit_of}
-use Rattle.pt_semantics.specs.Visits.{Together}
+use Rattle.pt_semantics.specs.Visits.{RunState}
 use Rattle.pt_semantics.proofs.Lookups.{Each-in, Each-append}
 use Rattle.pt_paced_laws.proofs.PacedRuns.{missed_when_paced, timely_when_paced}
 use Rattle.pt_semantics.proofs.LawfulEdges.{wired}
@@ -69,7 +69,7 @@ none_missed n offset has turn timely a limit t missed =
     past limit time slack reading is late waits soon = omega arith
 
 -- in all kept turns of a whole paced run
-pub never_missed : (n : ℕ) → n ≤ 100 → (level : ℕ → ℕ) (offset : Unit → Option ℤ) → AreLevels (made_graph n) level → ((u : Unit) → HasOffset (made_graph n) u (offset u)) → (y : Together) → IsWholeRun (made_graph n) level (of_run (made_graph n) (made_rows n)) y → (i : ℕ) → i < 4 → (turn : Turn) → IsIn turn (kept (y.did i)) → (a limit : ℕ) (t : Tag) → IsMissed (made_graph n) turn a t limit → ⊥
+pub never_missed : (n : ℕ) → n ≤ 100 → (level : ℕ → ℕ) (offset : Unit → Option ℤ) → AreLevels (made_graph n) level → ((u : Unit) → HasOffset (made_graph n) u (offset u)) → (y : RunState) → IsWholeRun (made_graph n) level (of_run (made_graph n) (made_rows n)) y → (i : ℕ) → i < 4 → (turn : Turn) → IsIn turn (kept (y.did i)) → (a limit : ℕ) (t : Tag) → IsMissed (made_graph n) turn a t limit → ⊥
 never_missed n few level offset are has y run i lt turn mem =
     none_missed n offset has turn
     (Each-in (IsTimely (made_graph n) offset) (kept (y.did i)) (each_kept (IsTimely (made_graph n) offset) (joined_timely (made_graph n) offset) (y.did i) timely) turn mem)

@@ -64,7 +64,8 @@ pub fn made_rows(alloc: Global, number: u32) -> Result<Vec<SensorRows>, AllocErr
     requires { number ≤ 100 }
     ensures places { IfOk result (λ all. StandInPlace (made.made_graph number) all.items) }
     ensures rows { IfOk result (λ all. rows_for all.items ≡ made.made_rows number) }
-    ensures fit { IfOk result (λ all. FitRows (made.made_graph number) (of_run (made.made_graph number) (rows_for all.items))) }
+    ensures fit { IfOk result (λ all.
+        FitRows (made.made_graph number) (of_run (made.made_graph number) (rows_for all.items))) }
 {
     let mut all = Vec::new(alloc);
     for actor in 0..ACTORS {

@@ -22,7 +22,8 @@ pub fn summary(
     missed: usize,
 ) -> Result<String, AllocError>
     requires { number ≤ 100 }
-    ensures { IfOk result (λ summary. string_bytes summary ≡ text.summary number firings.now missed) }
+    ensures { IfOk result (λ summary.
+        string_bytes summary ≡ text.summary number firings.now missed) }
 {
     let (count, last) = count_actuations(firings);
     let mut summary = String::new(alloc);
@@ -37,14 +38,17 @@ pub fn summary(
 
 /// Appends a line: a word, which ends with a space, and a number.
 fn push_line(summary: &mut String, word: &str, value: u64) -> Result<(), AllocError>
-    ensures { OnOk result (string_bytes summary.new ≡ string_bytes summary.old ++ text.summary_line word.now (decimal value)) }
+    ensures { OnOk result (string_bytes summary.new
+        ≡ string_bytes summary.old ++ text.summary_line word.now (decimal value)) }
 {
     write!(summary, "{word}{value}\n")
 }
 
 /// Appends the line of the last firing of `out`.
 fn push_last(summary: &mut String, firing: Option<ActorFiring>) -> Result<(), AllocError>
-    ensures { OnOk result (string_bytes summary.new ≡ string_bytes summary.old ++ text.summary_line (codes "last out ") (text.firing_text firing)) }
+    ensures { OnOk result (string_bytes summary.new
+        ≡ string_bytes summary.old ++ text.summary_line (codes "last out ")
+        (text.firing_text firing)) }
 {
     let Some(firing) = firing else {
         return summary.push_str("last out -\n");

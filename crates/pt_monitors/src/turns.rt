@@ -17,7 +17,8 @@ use pt_types::{Graph, Kind, OnLink};
 /// With tag time 50 and slack 10, a reading of 60 is in time and one of 61 is a miss. If memory runs out, some may be
 /// appended.
 pub fn missed_in(graph: &Graph, history: &History, misses: &mut Vec<Miss>) -> Result<(), Memory>
-    ensures missed { OnOk result (misses.new.items ≡ misses.old.items ++ missed_of graph.now history.now.turns) }
+    ensures missed { OnOk result (misses.new.items
+        ≡ misses.old.items ++ missed_of graph.now history.now.turns) }
     ensures all { ListsMissed graph.now history.now.turns (missed_of graph.now history.now.turns) }
 {
     missed_until(graph, history, None, misses)
@@ -32,7 +33,8 @@ pub(crate) fn missed_until(
     misses: &mut Vec<Miss>,
 ) -> Result<(), Memory>
     requires { IfSome latest (λ r. EndBy r history.now.turns) }
-    ensures { OnOk result (misses.new.items ≡ misses.old.items ++ missed_of graph.now history.now.turns) }
+    ensures { OnOk result (misses.new.items
+        ≡ misses.old.items ++ missed_of graph.now history.now.turns) }
 {
     if are_in_time(graph, history, latest) {
         return missed_sent(graph, history, misses);
@@ -69,7 +71,8 @@ fn is_late(
 ) -> bool
     requires number { number < length (all_dated history.now.turns) }
     requires latest { IfSome latest (λ r. EndBy r history.now.turns) }
-    ensures { result ≡ false → HasNoMiss graph.now (slice_get (all_dated history.now.turns) number) }
+    ensures { result ≡ false → HasNoMiss graph.now
+        (slice_get (all_dated history.now.turns) number) }
 {
     let mark = history.result_mark(number);
     let Some(actor) = graph.actors.as_slice().get(mark.actor as usize) else {
@@ -108,7 +111,8 @@ fn is_past(
 /// Appends the misses of a history of which no result is a miss: those among its messages. Goes block by block through the turns.
 fn missed_sent(graph: &Graph, history: &History, misses: &mut Vec<Miss>) -> Result<(), Memory>
     requires in_time { AreInTime graph.now history.now.turns }
-    ensures { OnOk result (misses.new.items ≡ misses.old.items ++ missed_of graph.now history.now.turns) }
+    ensures { OnOk result (misses.new.items
+        ≡ misses.old.items ++ missed_of graph.now history.now.turns) }
 {
     if history.all_sent().is_empty() {
         return Ok(());
@@ -136,7 +140,8 @@ fn missed_in_block(
     requires end { end ≤ length history.now.turns }
     requires block { end ≤ 64 * (from / 64) + 64 }
     requires in_time { AreInTime graph.now history.now.turns }
-    ensures { OnOk result (AppendsUpTo graph.now history.now.turns from end misses.old.items misses.new.items) }
+    ensures { OnOk result (AppendsUpTo graph.now history.now.turns from end misses.old.items
+        misses.new.items) }
 {
     let levels = history.levels(from / 64);
     let mut number = next_unknown(&levels, from, end);
@@ -177,7 +182,8 @@ fn missed_at(
     misses: &mut Vec<Miss>,
 ) -> Result<(), Memory>
     requires { number < length history.now.turns }
-    ensures { OnOk result (AppendsMissed graph.now (slice_get history.now.turns number) misses.old.items misses.new.items) }
+    ensures { OnOk result (AppendsMissed graph.now
+        (slice_get history.now.turns number) misses.old.items misses.new.items) }
 {
     missed_results(graph, history, number, history.posted(number), misses)?;
     missed_after(graph, history, number, misses)
@@ -192,7 +198,8 @@ fn missed_after(
     misses: &mut Vec<Miss>,
 ) -> Result<(), Memory>
     requires { number < length history.now.turns }
-    ensures { OnOk result (AppendsSent graph.now (slice_get history.now.turns number) misses.old.items misses.new.items) }
+    ensures { OnOk result (AppendsSent graph.now
+        (slice_get history.now.turns number) misses.old.items misses.new.items) }
 {
     let sent = history.sent(number);
     if sent.is_empty() {
@@ -211,7 +218,8 @@ fn missed_results(
 ) -> Result<(), Memory>
     requires turn { turn < length history.now.turns }
     requires posted { posted ≡ length (posted_in history.now.turns turn) }
-    ensures { OnOk result (AppendsMisses graph.now (slice_get history.now.turns turn) (posted_in history.now.turns turn) misses.old.items misses.new.items) }
+    ensures { OnOk result (AppendsMisses graph.now (slice_get history.now.turns turn)
+        (posted_in history.now.turns turn) misses.old.items misses.new.items) }
 {
     for number in 0..posted {
         let mark = history.done_mark(turn, number);
@@ -228,7 +236,8 @@ fn missed_messages(
     sent: &[OnLink],
     misses: &mut Vec<Miss>,
 ) -> Result<(), Memory>
-    ensures { OnOk result (misses.new.items ≡ misses.old.items ++ filter_map (miss_of_message graph.now reading) sent.now) }
+    ensures { OnOk result (misses.new.items
+        ≡ misses.old.items ++ filter_map (miss_of_message graph.now reading) sent.now) }
 {
     for message in sent {
         push(misses, miss_of_message(graph, reading, message))?;

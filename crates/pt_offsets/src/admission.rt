@@ -33,7 +33,8 @@ pub fn offsets(alloc: Global, graph: &Graph, least: &Least) -> Result<Offsets, O
     requires small { AreSmall (least_of least.now) }
     ensures offsets { IfOk result (λ o. (u : Unit) → HasOffset graph.now u (offset_of o u)) }
     ensures actors { IfOk result (λ o. (a : ℕ) → HasActorOffset graph.now a (actor_offset_of o a)) }
-    ensures words { IfOk result (λ o. (word : ℕ) → IsLeastInWord graph.now word (least_offset_in o word)) }
+    ensures words { IfOk result (λ o. (word : ℕ) →
+        IsLeastInWord graph.now word (least_offset_in o word)) }
     ensures bounds { IfOk result (λ o. (a : ℕ) → bound_in o a ≡ bound_of graph.now a) }
     ensures margins { IfOk result (λ o. (a : ℕ) → HasMargin graph.now a (margin_in o a)) }
 
@@ -50,7 +51,8 @@ pub fn offsets(alloc: Global, graph: &Graph, least: &Least) -> Result<Offsets, O
 fn admit_all(graph: &Graph, timings: &[Timing]) -> Result<(), OffsetFault>
     requires lawful { IsLawful graph.now }
     requires timings { AreTimings graph.now timings.now }
-    ensures { MatchResult result (λ _. (a : ℕ) → SendsInTime graph.now a) (λ f. CauseOfOffset f graph.now) }
+    ensures { MatchResult result (λ _. (a : ℕ) → SendsInTime graph.now a)
+        (λ f. CauseOfOffset f graph.now) }
 {
     let count = graph.actors.as_slice().len();
     for number in 0..count {
@@ -63,7 +65,8 @@ fn admit_all(graph: &Graph, timings: &[Timing]) -> Result<(), OffsetFault>
 fn admit_at(graph: &Graph, timings: &[Timing], number: u32) -> Result<(), OffsetFault>
     requires lawful { IsLawful graph.now }
     requires timings { AreTimings graph.now timings.now }
-    ensures { MatchResult result (λ _. SendsInTime graph.now number) (λ f. Names f graph.now number) }
+    ensures { MatchResult result (λ _. SendsInTime graph.now number)
+        (λ f. Names f graph.now number) }
 {
     match graph.actors.as_slice().get(number as usize) {
         Some(actor) => admit(number, &actor.kind, offset_at(timings, number)),
@@ -81,7 +84,8 @@ fn offset_at(timings: &[Timing], number: u32) -> Option<i64>
 /// Checks that an actor can send in time, if it is a sender.
 fn admit(number: u32, kind: &Kind, offset: Option<i64>) -> Result<(), OffsetFault>
     requires { kind_is_lawful kind.now ≡ true }
-    ensures { MatchResult result (λ _. CanSendInTime kind.now offset) (SendsLate number kind.now offset) }
+    ensures { MatchResult result (λ _. CanSendInTime kind.now offset)
+        (SendsLate number kind.now offset) }
 {
     match kind {
         Kind::Send { slack } => admit_sender(number, *slack, offset),
@@ -92,7 +96,8 @@ fn admit(number: u32, kind: &Kind, offset: Option<i64>) -> Result<(), OffsetFaul
 /// Checks that a sender can send in time.
 fn admit_sender(send: u32, slack: u64, offset: Option<i64>) -> Result<(), OffsetFault>
     requires { slack < 2 ^ 62 }
-    ensures { MatchResult result (λ _. CanSendInTime (Send slack) offset) (SendsLate send (Send slack) offset) }
+    ensures { MatchResult result (λ _. CanSendInTime (Send slack) offset)
+        (SendsLate send (Send slack) offset) }
 {
     match offset {
         Some(offset) if offset >= slack as i64 => Err(OffsetFault::Infeasible {

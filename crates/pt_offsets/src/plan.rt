@@ -38,9 +38,16 @@ impl Model for Plan {
 
     ghost Value = { Parts };
 
-    ghost view = { λ p. record { graph = p.graph; least = p.least; ranks = p.ranks; offsets = p.offsets } };
+    ghost view = { λ p. record {
+      graph = p.graph;
+      least = p.least;
+      ranks = p.ranks;
+      offsets = p.offsets;
+    } };
 
-    ghost invariant = { λ p. IsAdmitted (record { graph = p.graph; least = p.least; ranks = p.ranks; offsets = p.offsets }) × AreBranches p.graph p.branches };
+    ghost invariant = { λ p. IsAdmitted
+        (record { graph = p.graph; least = p.least; ranks = p.ranks; offsets = p.offsets })
+        × AreBranches p.graph p.branches };
 }
 
 impl Plan {

@@ -58,7 +58,8 @@ impl Offsets {
     /// The offsets of actors with these timings.
     pub(crate) fn new(alloc: Global, actors: Vec<Timing>) -> Result<Offsets, AllocError>
         ensures actors { IfOk result (λ offsets. offsets.actors.items ≡ actors.items) }
-        ensures words { IfOk result (λ offsets. AreAtMostWords (length actors.items) actors.items offsets.words.items) }
+        ensures words { IfOk result (λ offsets.
+            AreAtMostWords (length actors.items) actors.items offsets.words.items) }
     {
         let firsts = first_offsets(alloc, actors.as_slice())?;
         let words = least_by_word(alloc, actors.as_slice())?;

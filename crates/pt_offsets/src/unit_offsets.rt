@@ -29,7 +29,9 @@ pub fn unit_offsets(
     requires modest { AreModest bounds.now }
     requires small { AreSmall (least_of least.now) }
     ensures len { IfOk result (λ v. length v.items ≡ groups) }
-    ensures each { IfOk result (λ v. (k : ℕ) → k < groups → HasGreatest (length bounds.now) (offset_from bounds.now (least_of least.now) (unit_at actor k)) (slice_index_or v.items k None)) }
+    ensures each { IfOk result (λ v. (k : ℕ) → k < groups →
+        HasGreatest (length bounds.now) (offset_from bounds.now (least_of least.now)
+        (unit_at actor k)) (slice_index_or v.items k None)) }
 {
     let mut offsets = Vec::new(alloc);
     for group in 0..groups {
@@ -43,7 +45,8 @@ fn unit_offset(bounds: &[Option<u64>], sources: &[u32], least: &Least, unit: Uni
     requires sources { AreSources bounds.now sources.now }
     requires modest { AreModest bounds.now }
     requires small { AreSmall (least_of least.now) }
-    ensures { HasGreatest (length bounds.now) (offset_from bounds.now (least_of least.now) unit) result }
+    ensures { HasGreatest (length bounds.now)
+        (offset_from bounds.now (least_of least.now) unit) result }
 {
     let mut offset = None;
     for actor in sources {

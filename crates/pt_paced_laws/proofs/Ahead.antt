@@ -32,7 +32,7 @@ use Rattle.pt_semantics.specs.Settled.{AreCaughtUp}
 use Rattle.pt_semantics.specs.Linked.{all_claims, all_taken}
 use Rattle.pt_semantics.specs.History.{claims_of}
 use Rattle.pt_semantics.specs.Paced.{paced_by}
-use Rattle.pt_semantics.specs.Visits.{Together}
+use Rattle.pt_semantics.specs.Visits.{RunState}
 use Rattle.pt_semantics.proofs.Tags.{Before-trans, cases_tags, same_tag-before}
 use Rattle.pt_semantics.proofs.Longest.{levels_grow, sum_time, sum_step}
 use Rattle.pt_semantics.proofs.Words.{when-false, when-true, first_of_same, when_same, eight_same}
@@ -50,13 +50,13 @@ use Rattle.pt_laws.proofs.Onward.{OnwardNear}
 use Rattle.pt_paced_laws.proofs.Prefix.{Along, along_push, before_push, IsPast, Crosses, split, sooner_time, not_itself, not_one, later_path, whole, in_bound, by_link, same_there, prefixes}
 
 -- what waits at v at t itself is left out
-pub record IsAhead (g : Graph) (y : Together) (v : Unit) (t : Tag) (u : Unit) (s : Tag) : Type 0 where
+pub record IsAhead (g : Graph) (y : RunState) (v : Unit) (t : Tag) (u : Unit) (s : Tag) : Type 0 where
   pub waits : (i a p : ℕ) (w : Tag) (x : ℤ) → i < length g.platforms → p < 8 → (y.at i).waits a p w ≡ Some x → (at_input g a p ≡ v → w ≡ t → ⊥) → (path : List Edge) → Along g (at_input g a p) path u → Before s (plus w (sum_along path))
   pub left : (i a : ℕ) (row : Row) → i < length g.platforms → IsIn row ((y.at i).left a) → (path : List Edge) → Along g (at_input g a 0) path u → Before s (plus (at_time row.time) (sum_along path))
   pub messages : (l : ℕ) (link : Link) (w : Tag) (x : ℤ) → slice_get g.links l ≡ Some link → IsIn (Event w x) (y.on_way l ++ (y.at (platform_of g link.from)).outbox l) → (path : List Edge) → Along g (at_input g link.to 0) path u → Before s (plus w (sum_along path))
   pub busy : (i : ℕ) (x : Unit) (task : Task) (e : Edge) (path : List Edge) → i < length g.platforms → (y.at i).busy x ≡ Some task → Along g x (e ∷ path) u → Before s (plus task.tag (sum_along (e ∷ path)))
 
-ahead_is_closed : (g : Graph) (y : Together) (v : Unit) (t : Tag) → IsClosed g (IsAhead g y v t)
+ahead_is_closed : (g : Graph) (y : RunState) (v : Unit) (t : Tag) → IsClosed g (IsAhead g y v t)
 ahead_is_closed g y v t = record {
   earlier = λ u s r l h. record {
     waits = λ i a p w x lt below there other path go. Before-trans s r (plus w (sum_along path)) l (h.waits i a p w x lt below there other path go);
@@ -103,7 +103,7 @@ round_trip g level up v t s e path mem end sum go =
     cases_zero zero = inl refl
     cases_zero (suc n) = inr (λ e. absurd (omega (arith, e)))
 
-module _ (g : Graph) (level : ℕ → ℕ) (rows : ℕ → List Row) (offset : Unit → Option ℤ) (wired : IsWired g) (are : AreLevels g level) (fits : FitRows g rows) (feasible : IsFeasible g) (has : (u : Unit) → HasOffset g u (offset u)) (c : ℕ → ℕ) (near : AreNear g c) (y : Together) (h : OnwardNear g level rows offset c y) (v : Unit) (t : Tag) (safe : IsSafe g (y.at (platform_of g v.actor)).waits (y.at (platform_of g v.actor)).busy (c (platform_of g v.actor)) v t) where
+module _ (g : Graph) (level : ℕ → ℕ) (rows : ℕ → List Row) (offset : Unit → Option ℤ) (wired : IsWired g) (are : AreLevels g level) (fits : FitRows g rows) (feasible : IsFeasible g) (has : (u : Unit) → HasOffset g u (offset u)) (c : ℕ → ℕ) (near : AreNear g c) (y : RunState) (h : OnwardNear g level rows offset c y) (v : Unit) (t : Tag) (safe : IsSafe g (y.at (platform_of g v.actor)).waits (y.at (platform_of g v.actor)).busy (c (platform_of g v.actor)) v t) where
   -- a row or message that is not seen before the platform's reading comes past t
   source_later : (a b : ℕ) (path : List Edge) → Feeds g a b path v → (n : ℕ) → c (platform_of g v.actor) ≤ n + b → t.time < n + (sum_along path).time
   source_later a b path feeds n le =

@@ -12,7 +12,7 @@ use Rattle.pt_semantics.specs.Platform.{opened}
 use Rattle.pt_semantics.specs.Ranks.{AreLevels}
 use Rattle.pt_semantics.specs.Rows.{FitRows}
 use Rattle.pt_semantics.specs.Rounds.{Follows, IsLeastNext, IsPacedRun, IsQuietRound, Round, Rounds}
-use Rattle.pt_semantics.specs.Visits.{AreFinished, Made, Together, together_at_start}
+use Rattle.pt_semantics.specs.Visits.{AreFinished, VisitRecord, RunState, run_at_start}
 use Rattle.pt_semantics.specs.Wired.{IsWired}
 use Rattle.pt_laws.proofs.Onward.{Onward}
 use Rattle.pt_paced_laws.proofs.PacedRuns.{run_onward}
@@ -23,7 +23,7 @@ use Rattle.pt_paced_laws.proofs.Moves.{Falls, IsFree, IsStillRound, all_to_do, t
 use Rattle.pt_paced_laws.proofs.Rounds.{quiet_still, round_falls, round_frees, round_posts_nothing}
 
 -- rounds with one more at their end
-rounds_push : (g : Graph) (level : ℕ → ℕ) (rounds : List (List Made)) (c d b : ℕ) (x y z : Together) (ms : List Made) → Rounds g level c x rounds d y → Round g level d (length g.platforms) 0 y ms z → Each (λ (m : Made). m.fault ≡ false) ms → (AreFinished g z → ⊥) → Follows g d y ms z b → Rounds g level c x (rounds ++ ms ∷ []) b z
+rounds_push : (g : Graph) (level : ℕ → ℕ) (rounds : List (List VisitRecord)) (c d b : ℕ) (x y z : RunState) (ms : List VisitRecord) → Rounds g level c x rounds d y → Round g level d (length g.platforms) 0 y ms z → Each (λ (m : VisitRecord). m.fault ≡ false) ms → (AreFinished g z → ⊥) → Follows g d y ms z b → Rounds g level c x (rounds ++ ms ∷ []) b z
 rounds_push g level [] c d b x y z ms (e, same) round fine on follows =
     subst (λ n. Rounds g level n x (ms ∷ []) b z) e
     (subst (λ w. Rounds g level d w (ms ∷ []) b z) same
@@ -32,9 +32,9 @@ rounds_push g level (ns ∷ rounds) c d b x y z ms (a, mid, round1, fine1, on1, 
     (a, mid, round1, fine1, on1, follows1, rounds_push g level rounds a d b mid y z ms rest round fine on follows)
 
 -- a paced run with one round more
-pub run_push : (g : Graph) (level : ℕ → ℕ) (rows : ℕ → List Row) (rounds : List (List Made)) (c b : ℕ) (x y : Together) (ms : List Made) → IsPacedRun g level rows rounds c x → Round g level c (length g.platforms) 0 x ms y → Each (λ (m : Made). m.fault ≡ false) ms → (AreFinished g y → ⊥) → Follows g c x ms y b → IsPacedRun g level rows (rounds ++ ms ∷ []) b y
+pub run_push : (g : Graph) (level : ℕ → ℕ) (rows : ℕ → List Row) (rounds : List (List VisitRecord)) (c b : ℕ) (x y : RunState) (ms : List VisitRecord) → IsPacedRun g level rows rounds c x → Round g level c (length g.platforms) 0 x ms y → Each (λ (m : VisitRecord). m.fault ≡ false) ms → (AreFinished g y → ⊥) → Follows g c x ms y b → IsPacedRun g level rows (rounds ++ ms ∷ []) b y
 run_push g level rows rounds c b x y ms run round fine on follows =
-    record { begins = run.begins; begins_at = run.begins_at; goes = rounds_push g level rounds run.begins c b (together_at_start g rows) x y ms run.goes round fine on follows }
+    record { begins = run.begins; begins_at = run.begins_at; goes = rounds_push g level rounds run.begins c b (run_at_start g rows) x y ms run.goes round fine on follows }
 
 -- how many rounds can follow if so much is left to do: three for each move left, and two; one fewer if nothing is open, since a
 -- round without a move is quiet then; and two fewer if the last round was quiet besides, since no two quiet ones follow one another
@@ -60,18 +60,18 @@ one_more_round Free FreeThen AfterQuiet AfterQuietThen Still left less n later (
 
 module _ (g : Graph) (level : ℕ → ℕ) (rows : ℕ → List Row) (offset : Unit → Option ℤ) (wired : IsWired g) (are : AreLevels g level) (fits : FitRows g rows) (feasible : IsFeasible g) (has : (u : Unit) → HasOffset g u (offset u)) where
   -- a paced run whose last round was quiet
-  record EndsQuiet (c : ℕ) (x : Together) : Type 0 where
-    rounds : List (List Made)
+  record EndsQuiet (c : ℕ) (x : RunState) : Type 0 where
+    rounds : List (List VisitRecord)
     reading : ℕ
-    before : Together
+    before : RunState
     run : IsPacedRun g level rows rounds reading before
-    made : List Made
+    made : List VisitRecord
     round : Round g level reading (length g.platforms) 0 before made x
-    fine : Each (λ (m : Made). m.fault ≡ false) made
+    fine : Each (λ (m : VisitRecord). m.fault ≡ false) made
     quiet : IsQuietRound before made x
     next : IsLeastNext g x c
 
-  rounds_short : (before rounds : List (List Made)) (c d : ℕ) (x y : Together) → IsPacedRun g level rows before c x → Rounds g level c x rounds d y → AreShort (IsFree x.at (length g.platforms) 0) (EndsQuiet c x) (all_to_do g x.at x.did) (length rounds)
+  rounds_short : (before rounds : List (List VisitRecord)) (c d : ℕ) (x y : RunState) → IsPacedRun g level rows before c x → Rounds g level c x rounds d y → AreShort (IsFree x.at (length g.platforms) 0) (EndsQuiet c x) (all_to_do g x.at x.did) (length rounds)
   rounds_short before [] c d x y run goes = record { any = omega arith; free = λ f. omega arith; quiet = λ f q. omega arith }
   rounds_short before (ms ∷ rounds) c d x y run (b, mid, round, fine, on_going, follows, rest) =
       one_more_round _ (IsFree mid.at (length g.platforms) 0) _ (EndsQuiet b mid) (IsStillRound x.at ms mid.at) (all_to_do g x.at x.did) (all_to_do g mid.at mid.did) (length rounds)
@@ -125,6 +125,6 @@ start_to_do g rows = sum_at_most (λ i. to_do g (opened g i rows) []) (length g.
 
 pub rounds_end : RoundsEnd
 rounds_end g level rows offset rounds c x wired are fits feasible has run =
-    let short = (rounds_short g level rows offset wired are fits feasible has [] rounds run.begins c (together_at_start g rows) x (record { begins = run.begins; begins_at = run.begins_at; goes = (refl, refl) }) run.goes).any in
+    let short = (rounds_short g level rows offset wired are fits feasible has [] rounds run.begins c (run_at_start g rows) x (record { begins = run.begins; begins_at = run.begins_at; goes = (refl, refl) }) run.goes).any in
     let start = start_to_do g rows in
     omega (arith, short, start)

@@ -20,7 +20,7 @@ use Rattle.pt_semantics.specs.Ranks.{AreLevels}
 use Rattle.pt_semantics.specs.Rows.{FitRows}
 use Rattle.pt_semantics.specs.Turn.{Turn}
 use Rattle.pt_semantics.specs.Units.{at_output}
-use Rattle.pt_semantics.specs.Visits.{Together}
+use Rattle.pt_semantics.specs.Visits.{RunState}
 use Rattle.pt_semantics.specs.Wired.{IsWired}
 use Rattle.pt_semantics.proofs.Longest.{levels_grow}
 use Rattle.pt_laws.proofs.Keeps.{open_list}
@@ -97,11 +97,11 @@ history_sends_few g level rows wired are fits l link at turns s legal = by_close
 
 module _ (g : Graph) (level : ℕ → ℕ) (rows : ℕ → List Row) (offset : Unit → Option ℤ) (wired : IsWired g) (are : AreLevels g level) (fits : FitRows g rows) (feasible : IsFeasible g) (has : (u : Unit) → HasOffset g u (offset u)) where
   -- and so it is in a paced run
-  pub sent_few : (c : ℕ) (y : Together) (l : ℕ) (link : Link) → Onward g level rows offset c y → slice_get g.links l ≡ Some link → length (all_sent l (y.did (platform_of g link.from))) ≤ (g.claims + 1)
+  pub sent_few : (c : ℕ) (y : RunState) (l : ℕ) (link : Link) → Onward g level rows offset c y → slice_get g.links l ≡ Some link → length (all_sent l (y.did (platform_of g link.from))) ≤ (g.claims + 1)
   sent_few c y l link h at = history_sends_few g level rows wired are fits l link at (y.did (platform_of g link.from)) (y.at (platform_of g link.from)) (h.legal (platform_of g link.from) (wired.homes link.from))
 
   -- and no more are taken
-  pub taken_few : (c : ℕ) (y : Together) (l : ℕ) (link : Link) → Onward g level rows offset c y → slice_get g.links l ≡ Some link → length (all_taken l (y.did (platform_of g link.to))) ≤ (g.claims + 1)
+  pub taken_few : (c : ℕ) (y : RunState) (l : ℕ) (link : Link) → Onward g level rows offset c y → slice_get g.links l ≡ Some link → length (all_taken l (y.did (platform_of g link.to))) ≤ (g.claims + 1)
   taken_few c y l link h at =
       let sent = sent_few c y l link h at in
       let sum = ap length (h.linked l link at) ∙ length-append (all_taken l (y.did (platform_of g link.to))) (y.on_way l) in

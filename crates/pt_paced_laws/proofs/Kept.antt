@@ -31,7 +31,7 @@ use Rattle.pt_semantics.specs.Rounds.{IsTimely}
 use Rattle.pt_semantics.specs.Turn.{Turn, is_quiet}
 use Rattle.pt_semantics.specs.Units.{at_input, first_port, unit_of}
 use Rattle.pt_types.specs.Groups.{input_group}
-use Rattle.pt_semantics.specs.Visits.{AreFinished, Together}
+use Rattle.pt_semantics.specs.Visits.{AreFinished, RunState}
 use Rattle.pt_laws.proofs.KeptTurns.{kept_counted, kept_is_legal}
 use Rattle.pt_semantics.proofs.Lookups.{Each-from, Each-in}
 use Rattle.pt_laws.specs.NearClocks.{AreNear}
@@ -65,7 +65,7 @@ actuator_unit g a p slack e =
     λ j. record { actor = a; group = same j }
 
 -- all platforms of a graph that can run, together, each at its own clock's reading: at the end of a run, or before
-pub record IsNearEnd (g : Graph) (level : ℕ → ℕ) (rows : ℕ → List Row) (y : Together) : Type 0 where
+pub record IsNearEnd (g : Graph) (level : ℕ → ℕ) (rows : ℕ → List Row) (y : RunState) : Type 0 where
   pub wired : IsWired g
   pub levels : AreLevels g level
   pub fit : FitRows g rows
@@ -77,7 +77,7 @@ pub record IsNearEnd (g : Graph) (level : ℕ → ℕ) (rows : ℕ → List Row)
   pub onward : OnwardNear g level rows offset clock y
   pub single : (i : ℕ) → Each IsSingle (y.did i)
 
-module _ (g : Graph) (level : ℕ → ℕ) (rows : ℕ → List Row) (y : Together) (end : IsNearEnd g level rows y) where
+module _ (g : Graph) (level : ℕ → ℕ) (rows : ℕ → List Row) (y : RunState) (end : IsNearEnd g level rows y) where
   timed : (i : ℕ) → i < length g.platforms → Each (IsTimely g end.offset) (y.did i)
   timed = end.onward.timed
 
@@ -212,7 +212,7 @@ module _ (g : Graph) (level : ℕ → ℕ) (rows : ℕ → List Row) (y : Togeth
           (cases_Bool (is_quiet f.0))
 
 -- it keeps the paced schedule, and does what the meaning does
-pub keeps_pace : (g : Graph) (level : ℕ → ℕ) (rows : ℕ → List Row) (y : Together) → IsNearEnd g level rows y → KeepsPace g level rows y
+pub keeps_pace : (g : Graph) (level : ℕ → ℕ) (rows : ℕ → List Row) (y : RunState) → IsNearEnd g level rows y → KeepsPace g level rows y
 keeps_pace g level rows y end = record {
   none_late = λ i lt. (kept_is_legal g level i rows (y.did i) (y.at i) end.wired end.levels end.fit (end.single i)).1 (end.onward.legal i lt);
   on_schedule = schedule g level rows y end;
@@ -224,7 +224,7 @@ keeps_pace g level rows y end = record {
 }
 
 -- the end of a whole paced run is such an end, at one common reading
-near_end : (g : Graph) (level : ℕ → ℕ) (rows : ℕ → List Row) (y : Together) → IsEnd g level rows y → IsNearEnd g level rows y
+near_end : (g : Graph) (level : ℕ → ℕ) (rows : ℕ → List Row) (y : RunState) → IsEnd g level rows y → IsNearEnd g level rows y
 near_end g level rows y end = record {
   wired = end.wired;
   levels = end.levels;

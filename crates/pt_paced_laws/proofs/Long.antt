@@ -23,7 +23,7 @@ use Rattle.pt_semantics.specs.Turn.{Turn}
 use Rattle.pt_semantics.specs.History.{claims_of}
 use Rattle.pt_semantics.specs.Linked.{IsFinished, all_claims}
 use Rattle.pt_semantics.specs.Counts.{actor_firings, unit_firings}
-use Rattle.pt_semantics.specs.Visits.{Together, Made, AreFinished}
+use Rattle.pt_semantics.specs.Visits.{RunState, VisitRecord, AreFinished}
 use Rattle.pt_paced_laws.specs.PacedTheorems.{LongExactly}
 use Rattle.pt_semantics.proofs.Longest.{levels_grow}
 use Rattle.pt_semantics.proofs.Lookups.{none_some}
@@ -40,16 +40,16 @@ use Rattle.pt_paced_laws.proofs.Ahead.{has_more}
 
 module _ (g : Graph) (level rank : ℕ → ℕ) (rows : ℕ → List Row) (offset : Unit → Option ℤ) (wired : IsWired g) (are : AreLevels g level) (ranks : AreRanks g rank) (fits : FitRows g rows) (feasible : IsFeasible g) (has : (u : Unit) → HasOffset g u (offset u)) (xs : List ActorFiring) (meaning : IsMeaning g rank rows xs) (c : ℕ → ℕ) (near : AreNear g c) where
   -- what is claimed is a front of the meaning
-  claims_le : (y : Together) → OnwardNear g level rows offset c y → (u : Unit) → length (all_claims g y.did u) ≤ length (parts g xs u)
+  claims_le : (y : RunState) → OnwardNear g level rows offset c y → (u : Unit) → length (all_claims g y.did u) ≤ length (parts g xs u)
   claims_le y h u =
       let front = (prefixes g level rows offset wired are fits feasible has c near y h rank xs ranks meaning u).0 in
       subst (λ n. length (all_claims g y.did u) ≤ n) (sym (ap length front.1 ∙ length-append (all_claims g y.did u) front.0)) (omega arith)
 
-  here : (y : Together) → OnwardNear g level rows offset c y → (i : ℕ) → i < length g.platforms → Counted g i (y.at i) (claims_of g (y.did i))
+  here : (y : RunState) → OnwardNear g level rows offset c y → (i : ℕ) → i < length g.platforms → Counted g i (y.at i) (claims_of g (y.did i))
   here y h i lt = counted g level i rows (y.did i) (y.at i) wired (levels_grow g level are) fits (h.legal i lt)
 
   -- the claims of a platform are those of its units
-  pub claims_are : (y : Together) → OnwardNear g level rows offset c y → (i : ℕ) → i < length g.platforms → unit_firings g i (all_claims g y.did) ≡ (y.at i).claims
+  pub claims_are : (y : RunState) → OnwardNear g level rows offset c y → (i : ℕ) → i < length g.platforms → unit_firings g i (all_claims g y.did) ≡ (y.at i).claims
   claims_are y h i lt = sum_same _ _ (length g.actors) (λ a l. by_home a (platform_of g a == i) refl) ∙ (here y h i lt).count
     where
       by_home : (a : ℕ) (b : Bool) → (platform_of g a == i) ≡ b → (if platform_of g a == i then actor_firings g (all_claims g y.did) a else 0) ≡ (if platform_of g a == i then actor_firings g (claims_of g (y.did i)) a else 0)
@@ -57,7 +57,7 @@ module _ (g : Graph) (level rank : ℕ → ℕ) (rows : ℕ → List Row) (offse
       by_home a false e = subst (λ z. (if z then actor_firings g (all_claims g y.did) a else 0) ≡ (if z then actor_firings g (claims_of g (y.did i)) a else 0)) (sym e) refl
 
   -- a turn adds to the claims
-  grow : (x y : Together) (m : Made) → Advances g level (c m.platform) x m y → (u : Unit) → length (all_claims g x.did u) ≤ length (all_claims g y.did u)
+  grow : (x y : RunState) (m : VisitRecord) → Advances g level (c m.platform) x m y → (u : Unit) → length (all_claims g x.did u) ≤ length (all_claims g y.did u)
   grow x y m k u =
       ⊎_elim
       (λ (same : platform_of g u.actor ≡ m.platform).
@@ -71,7 +71,7 @@ module _ (g : Graph) (level rank : ℕ → ℕ) (rows : ℕ → List Row) (offse
       more turns = subst (λ n. length (claims_of g turns u) ≤ n) (sym (ap length (flat_map-append _ turns (m.turn ∷ [])) ∙ length-append (claims_of g turns u) _)) (omega arith)
 
   -- where a platform has a fault
-  pub long_of : (x y : Together) (m : Made) → m.platform < length g.platforms → OnwardNear g level rows offset c x → Advances g level (c m.platform) x m y → m.fault ≡ true → g.claims < unit_firings g m.platform (parts g xs)
+  pub long_of : (x y : RunState) (m : VisitRecord) → m.platform < length g.platforms → OnwardNear g level rows offset c x → Advances g level (c m.platform) x m y → m.fault ≡ true → g.claims < unit_firings g m.platform (parts g xs)
   long_of x y m lt h k fault =
       ⊎_elim
       (λ (late : m.late ≡ true). absurd (false≢true (sym on.0 ∙ late)))
@@ -112,21 +112,21 @@ module _ (g : Graph) (level rank : ℕ → ℕ) (rows : ℕ → List Row) (offse
           sums : (a b p n : ℕ) → g.claims ≤ n → a ≡ n → a ≤ b → b < p → p ≤ g.claims → ⊥
           sums a b p n h1 h2 h3 h4 h5 = omega (arith, h1, h2, h3, h4, h5)
 
-  pub long_in_round : (n i : ℕ) (x y : Together) (ms : List Made) → n + i ≤ length g.platforms → OnwardNear g level rows offset c x → AdvanceRound g level c n i x ms y → Each (λ (m : Made). m.fault ≡ true → g.claims < unit_firings g m.platform (parts g xs)) ms
-  long_in_round zero i x y ms le h (none, same) = subst (Each (λ (m : Made). m.fault ≡ true → g.claims < unit_firings g m.platform (parts g xs))) (sym none) tt
+  pub long_in_round : (n i : ℕ) (x y : RunState) (ms : List VisitRecord) → n + i ≤ length g.platforms → OnwardNear g level rows offset c x → AdvanceRound g level c n i x ms y → Each (λ (m : VisitRecord). m.fault ≡ true → g.claims < unit_firings g m.platform (parts g xs)) ms
+  long_in_round zero i x y ms le h (none, same) = subst (Each (λ (m : VisitRecord). m.fault ≡ true → g.claims < unit_firings g m.platform (parts g xs))) (sym none) tt
   long_in_round (suc n) i x y ms le h round =
       ⊎_elim
       (λ (skip : IsFinished g i (x.at i) × AdvanceRound g level c n (suc i) x ms y). long_in_round n (suc i) x y ms (omega (arith, le)) h skip.1)
-      (λ (one : (IsFinished g i (x.at i) → ⊥) × (m : Made) × (rest : List Made) × (mid : Together) × (ms ≡ m ∷ rest) × (m.platform ≡ i) × Advances g level (c m.platform) x m mid × AdvanceRound g level c n (suc i) mid rest y).
+      (λ (one : (IsFinished g i (x.at i) → ⊥) × (m : VisitRecord) × (rest : List VisitRecord) × (mid : RunState) × (ms ≡ m ∷ rest) × (m.platform ≡ i) × Advances g level (c m.platform) x m mid × AdvanceRound g level c n (suc i) mid rest y).
       let lt : one.1.platform < length g.platforms = subst (λ j. j < length g.platforms) (sym one.5) (omega (arith, le)) in
-      subst (Each (λ (m : Made). m.fault ≡ true → g.claims < unit_firings g m.platform (parts g xs))) (sym one.4) (
+      subst (Each (λ (m : VisitRecord). m.fault ≡ true → g.claims < unit_firings g m.platform (parts g xs))) (sym one.4) (
         long_of x one.3 one.1 lt h one.6,
         long_in_round n (suc i) one.3 y one.2 (omega (arith, le)) (advance_onward g level rows offset has wired feasible c near x one.3 one.1 lt h one.6).1 one.7,
       ))
       round
 
   -- where all platforms are finished, no platform has too many
-  pub none_long : (y : Together) → OnwardNear g level rows offset c y → AreFinished g y → (i : ℕ) → i < length g.platforms → unit_firings g i (parts g xs) ≤ g.claims
+  pub none_long : (y : RunState) → OnwardNear g level rows offset c y → AreFinished g y → (i : ℕ) → i < length g.platforms → unit_firings g i (parts g xs) ≤ g.claims
   none_long y h done i lt =
       let all = λ (u : Unit). (prefixes g level rows offset wired are fits feasible has c near y h rank xs ranks meaning u).1 done in
       let same : ◌≡◌ {A = Firings} (all_claims g y.did) (parts g xs) = λ k u. all u k in

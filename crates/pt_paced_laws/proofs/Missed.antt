@@ -10,7 +10,7 @@ use Rattle.pt_semantics.specs.Ranks.{AreLevels, AreRanks}
 use Rattle.pt_semantics.specs.Offsets.{HasOffset, IsFeasible}
 use Rattle.pt_semantics.specs.Rows.{FitRows}
 use Rattle.pt_semantics.specs.Missed.{IsMissed}
-use Rattle.pt_semantics.specs.Visits.{AreFinished, Together}
+use Rattle.pt_semantics.specs.Visits.{AreFinished, RunState}
 use Rattle.pt_semantics.specs.Lists.{IsIn}
 use Rattle.pt_types.specs.Lookups.{kind_of, platform_of}
 use Rattle.pt_semantics.specs.Units.{at_input, unit_of, first_port}
@@ -175,7 +175,7 @@ actuator_unit g a p slack e =
     let same : input_group (kind_of g a) p ≡ input_group (kind_of g a) 0 = ap (λ k. input_group k p) e ∙ sym (ap (λ k. input_group k 0) e) in
     λ j. record { actor = a; group = same j }
 
-module _ (g : Graph) (level rank : ℕ → ℕ) (rows : ℕ → List Row) (offset : Unit → Option ℤ) (wired : IsWired g) (are : AreLevels g level) (ranks : AreRanks g rank) (fits : FitRows g rows) (feasible : IsFeasible g) (has : (u : Unit) → HasOffset g u (offset u)) (c : ℕ → ℕ) (near : AreNear g c) (y : Together) (h : OnwardNear g level rows offset c y)
+module _ (g : Graph) (level rank : ℕ → ℕ) (rows : ℕ → List Row) (offset : Unit → Option ℤ) (wired : IsWired g) (are : AreLevels g level) (ranks : AreRanks g rank) (fits : FitRows g rows) (feasible : IsFeasible g) (has : (u : Unit) → HasOffset g u (offset u)) (c : ℕ → ℕ) (near : AreNear g c) (y : RunState) (h : OnwardNear g level rows offset c y)
     (xs : List ActorFiring) (meaning : IsMeaning g rank rows xs) (finished : AreFinished g y) where
   firings : AreTheFirings g (all_claims g y.did) xs
   firings = by_parts g rank rows (all_claims g y.did) xs meaning (λ u. (prefixes g level rows offset wired are fits feasible has c near y h rank xs ranks meaning u).1 finished)

@@ -16,7 +16,7 @@ use Rattle.pt_semantics.specs.Linked.{all_sent, all_taken}
 use Rattle.pt_semantics.specs.Lists.{Each, IsIn}
 use Rattle.pt_semantics.specs.Platform.{State}
 use Rattle.pt_semantics.specs.Turn.{Turn, is_empty, is_quiet}
-use Rattle.pt_semantics.specs.Visits.{Made}
+use Rattle.pt_semantics.specs.Visits.{VisitRecord}
 use Rattle.pt_laws.proofs.Onward.{cases_same}
 use Rattle.pt_laws.proofs.Paces.{in_on_link}
 use Rattle.pt_laws.proofs.Rows.{due_split}
@@ -47,8 +47,8 @@ abbrev pub all_to_do : Graph → (ℕ → State) → (ℕ → List Turn) → ℕ
 all_to_do g at did = sum_below (λ i. to_do g (at i) (did i)) (length g.platforms)
 
 -- a round in which no platform makes a move
-pub record IsStillRound (from : ℕ → State) (ms : List Made) (to : ℕ → State) : Type 0 where
-  pub turns : Each (λ (m : Made). MovesNothing m.turn) ms
+pub record IsStillRound (from : ℕ → State) (ms : List VisitRecord) (to : ℕ → State) : Type 0 where
+  pub turns : Each (λ (m : VisitRecord). MovesNothing m.turn) ms
   pub closed : (j : ℕ) → (to j).closed ≡ (from j).closed
 
 -- no claim is open on the n platforms from i on
@@ -89,7 +89,7 @@ due_length : (r : ℕ) (rows : List Row) → length (due r rows) + length (not_d
 due_length r rows = sym (length-append (due r rows) (not_due r rows)) ∙ ap length (due_split r rows)
 
 -- turns without a move that post nothing are quiet
-pub quiet_turns : (ms : List Made) → Each (λ (m : Made). MovesNothing m.turn) ms → Each (λ (m : Made). m.turn.posted ≡ []) ms → Each (λ (m : Made). is_quiet m.turn ≡ true) ms
+pub quiet_turns : (ms : List VisitRecord) → Each (λ (m : VisitRecord). MovesNothing m.turn) ms → Each (λ (m : VisitRecord). m.turn.posted ≡ []) ms → Each (λ (m : VisitRecord). is_quiet m.turn ≡ true) ms
 quiet_turns [] moves posts = tt
 quiet_turns (m ∷ ms) moves posts = (quiet m.turn moves.0 posts.0, quiet_turns ms moves.1 posts.1)
   where

@@ -5,7 +5,7 @@ use Rattle.pt_types.specs.declared.graph.Graph.{Graph}
 use Rattle.pt_semantics.specs.FixedOrder.{IsOver, Visits, platform_after, put_clock}
 use Rattle.pt_semantics.specs.Kept.{kept}
 use Rattle.pt_semantics.specs.Readings.{later_of, raised_from, raised_list}
-use Rattle.pt_semantics.specs.Visits.{IsVisit, Made, Together, together_at_start}
+use Rattle.pt_semantics.specs.Visits.{IsVisit, VisitRecord, RunState, run_at_start}
 use Rattle.pt_paced_laws.specs.FixedOrderTheorems.{AreOfOneClock, FixedOrderIsOne}
 use Rattle.pt_paced_laws.proofs.SameTurn.{made, together}
 use Rattle.pt_paced_laws.proofs.SameLists.{eq_self}
@@ -63,7 +63,7 @@ module _ (g : Graph) where
 
 module _ (g : Graph) (level : ℕ → ℕ) (most : ℕ) where
   -- two visits of platform i, each at the next reading of its clock
-  visit_one : (i r q : ℕ) (x y z : Together) (m n : Made) → r ≡ q → m.platform ≡ i → n.platform ≡ i → IsVisit g level most (λ l. 64) r x m y → IsVisit g level most (λ l. 64) q x n z → (m ≡ n) × (y ≡ z)
+  visit_one : (i r q : ℕ) (x y z : RunState) (m n : VisitRecord) → r ≡ q → m.platform ≡ i → n.platform ≡ i → IsVisit g level most (λ l. 64) r x m y → IsVisit g level most (λ l. 64) q x n z → (m ≡ n) × (y ≡ z)
   visit_one i r q x y z m n e pm pn k j =
       let other : IsVisit g level most (λ l. 64) r x n z = subst (λ c. IsVisit g level most (λ l. 64) c x n z) (sym e) j in
       (made g level most (λ l. 64) r x m n y z k other (pm ∙ sym pn), together g level most (λ l. 64) r x m n y z k other (pm ∙ sym pn))
@@ -71,7 +71,7 @@ module _ (g : Graph) (level : ℕ → ℕ) (most : ℕ) where
   next_of : (i r q : ℕ) (later after : List ℕ) (clocks others : ℕ → List ℕ) → clocks i ≡ r ∷ later → others i ≡ q ∷ after → i < length g.platforms → AreAlike g clocks others → AreOfOneClock (r ∷ later) (q ∷ after)
   next_of i r q later after clocks others a b lt are = both (clocks i) (others i) (r ∷ later) (q ∷ after) a b (are i lt)
 
-  visits_one : (ms ns : List Made) (i : ℕ) (clocks others : ℕ → List ℕ) (x y z : Together) → i < length g.platforms → AreAlike g clocks others → Visits g level most i clocks x ms y → Visits g level most i others x ns z → (ms ≡ ns) × (y ≡ z)
+  visits_one : (ms ns : List VisitRecord) (i : ℕ) (clocks others : ℕ → List ℕ) (x y z : RunState) → i < length g.platforms → AreAlike g clocks others → Visits g level most i clocks x ms y → Visits g level most i others x ns z → (ms ≡ ns) × (y ≡ z)
   visits_one [] ns i clocks others x y z lt are h k = absurd h
   visits_one (m ∷ []) [] i clocks others x y z lt are h k = absurd k
   visits_one (m ∷ mm ∷ ms) [] i clocks others x y z lt are h k = absurd k
@@ -95,5 +95,5 @@ module _ (g : Graph) (level : ℕ → ℕ) (most : ℕ) where
 pub fixed_order_is_one : FixedOrderIsOne
 fixed_order_is_one g level rows clocks others most histories recorded are h k i lt =
     let one =
-    visits_one g level most h.made k.made 0 (λ j. raised_list (clocks j)) (λ j. raised_list (others j)) (together_at_start g rows) h.end k.end (omega (arith, lt)) (λ j inside. raised_of_one (clocks j) (others j) (are j inside)) h.visits k.visits in
-    (one.0, h.kept_are i lt ∙ ap (λ (y : Together). kept (y.did i)) one.1 ∙ sym (k.kept_are i lt))
+    visits_one g level most h.made k.made 0 (λ j. raised_list (clocks j)) (λ j. raised_list (others j)) (run_at_start g rows) h.end k.end (omega (arith, lt)) (λ j inside. raised_of_one (clocks j) (others j) (are j inside)) h.visits k.visits in
+    (one.0, h.kept_are i lt ∙ ap (λ (y : RunState). kept (y.did i)) one.1 ∙ sym (k.kept_are i lt))

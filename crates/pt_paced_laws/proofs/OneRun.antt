@@ -9,7 +9,7 @@ use Rattle.pt_semantics.specs.Offsets.{HasOffset, IsFeasible}
 use Rattle.pt_semantics.specs.Wired.{IsWired}
 use Rattle.pt_semantics.specs.Rows.{FitRows}
 use Rattle.pt_semantics.specs.Linked.{IsFinished}
-use Rattle.pt_semantics.specs.Visits.{Together, together_at_start, Made, AreFinished}
+use Rattle.pt_semantics.specs.Visits.{RunState, run_at_start, VisitRecord, AreFinished}
 use Rattle.pt_semantics.specs.Rounds.{Makes, Round, Rounds, Follows, IsQuietRound, IsLeastNext, IsWholeRun}
 use Rattle.pt_laws.proofs.Onward.{Onward, makes_onward}
 use Rattle.pt_paced_laws.proofs.PacedRuns.{start_onward, rounds_onward}
@@ -19,13 +19,13 @@ use Rattle.pt_paced_laws.specs.PacedTheorems.{PacedIsOne}
 use Rattle.pt_paced_laws.specs.WholeRuns.{WholeRunsAreOne}
 
 -- the least next reading is one
-next_one : (g : Graph) (x : Together) (a b : ℕ) → IsLeastNext g x a → IsLeastNext g x b → a ≡ b
+next_one : (g : Graph) (x : RunState) (a b : ℕ) → IsLeastNext g x a → IsLeastNext g x b → a ≡ b
 next_one g x a b ha hb =
     let up : a ≤ b = ha.least hb.one.0 b hb.one.1 hb.one.2 hb.one.3 in
     let down : b ≤ a = hb.least ha.one.0 a ha.one.1 ha.one.2 ha.one.3 in
     omega (arith, up, down)
 
-follows_one : (g : Graph) (c : ℕ) (x : Together) (ms : List Made) (y : Together) (a b : ℕ) → Follows g c x ms y a → Follows g c x ms y b → a ≡ b
+follows_one : (g : Graph) (c : ℕ) (x : RunState) (ms : List VisitRecord) (y : RunState) (a b : ℕ) → Follows g c x ms y a → Follows g c x ms y b → a ≡ b
 follows_one g c x ms y a b ha hb =
     ⊎_elim
     (λ (p : IsQuietRound x ms y × IsLeastNext g y a).
@@ -35,23 +35,23 @@ follows_one g c x ms y a b ha hb =
     ha
 
 -- the end of a run: all platforms are finished, or one has a fault
-abbrev Ends : Graph → List Made → Together → Type 0
-Ends g ms y = AreFinished g y ⊎ (Each (λ (m : Made). m.fault ≡ false) ms → ⊥)
+abbrev Ends : Graph → List VisitRecord → RunState → Type 0
+Ends g ms y = AreFinished g y ⊎ (Each (λ (m : VisitRecord). m.fault ≡ false) ms → ⊥)
 
 module _ (g : Graph) (level : ℕ → ℕ) (rows : ℕ → List Row) (offset : Unit → Option ℤ) (wired : IsWired g) (are : AreLevels g level) (fits : FitRows g rows) (feasible : IsFeasible g) (has : (u : Unit) → HasOffset g u (offset u)) where
-  round_one : (c n i : ℕ) (x y z : Together) (ms ns : List Made) → n + i ≤ length g.platforms → Onward g level rows offset c x → Round g level c n i x ms y → Round g level c n i x ns z → (ms ≡ ns) × (y ≡ z)
+  round_one : (c n i : ℕ) (x y z : RunState) (ms ns : List VisitRecord) → n + i ≤ length g.platforms → Onward g level rows offset c x → Round g level c n i x ms y → Round g level c n i x ns z → (ms ≡ ns) × (y ≡ z)
   round_one c zero i x y z ms ns le h (em, ey) (en, ez) = (em ∙ sym en, ey ∙ sym ez)
   round_one c (suc n) i x y z ms ns le h r q =
       ⊎_elim
       (λ (skip : IsFinished g i (x.at i) × Round g level c n (suc i) x ms y).
       ⊎_elim
       (λ (skip2 : IsFinished g i (x.at i) × Round g level c n (suc i) x ns z). round_one c n (suc i) x y z ms ns (omega (arith, le)) h skip.1 skip2.1)
-      (λ (two : (IsFinished g i (x.at i) → ⊥) × (m : Made) × (rest : List Made) × (mid : Together) × (ns ≡ m ∷ rest) × (m.platform ≡ i) × Makes g level c x m mid × Round g level c n (suc i) mid rest z). absurd (two.0 skip.0))
+      (λ (two : (IsFinished g i (x.at i) → ⊥) × (m : VisitRecord) × (rest : List VisitRecord) × (mid : RunState) × (ns ≡ m ∷ rest) × (m.platform ≡ i) × Makes g level c x m mid × Round g level c n (suc i) mid rest z). absurd (two.0 skip.0))
       q)
-      (λ (one : (IsFinished g i (x.at i) → ⊥) × (m : Made) × (rest : List Made) × (mid : Together) × (ms ≡ m ∷ rest) × (m.platform ≡ i) × Makes g level c x m mid × Round g level c n (suc i) mid rest y).
+      (λ (one : (IsFinished g i (x.at i) → ⊥) × (m : VisitRecord) × (rest : List VisitRecord) × (mid : RunState) × (ms ≡ m ∷ rest) × (m.platform ≡ i) × Makes g level c x m mid × Round g level c n (suc i) mid rest y).
       ⊎_elim
       (λ (skip2 : IsFinished g i (x.at i) × Round g level c n (suc i) x ns z). absurd (one.0 skip2.0))
-      (λ (two : (IsFinished g i (x.at i) → ⊥) × (m : Made) × (rest : List Made) × (mid : Together) × (ns ≡ m ∷ rest) × (m.platform ≡ i) × Makes g level c x m mid × Round g level c n (suc i) mid rest z).
+      (λ (two : (IsFinished g i (x.at i) → ⊥) × (m : VisitRecord) × (rest : List VisitRecord) × (mid : RunState) × (ns ≡ m ∷ rest) × (m.platform ≡ i) × Makes g level c x m mid × Round g level c n (suc i) mid rest z).
       let here : one.1.platform < length g.platforms = subst (λ p. p < length g.platforms) (sym one.5) (omega (arith, le)) in
       let on = makes_onward g level rows offset has wired feasible c x one.3 one.1 here h one.6 in
       let same = made g level 64 (λ l. 64 - length (x.on_way l)) c x one.1 two.1 one.3 two.3 one.6 two.6 (one.5 ∙ sym two.5) in
@@ -62,15 +62,15 @@ module _ (g : Graph) (level : ℕ → ℕ) (rows : ℕ → List Row) (offset : U
       r
 
   -- a run that ended goes no further
-  no_more : (c b : ℕ) (x y mid : Together) (ms ns : List Made) → Onward g level rows offset c x → Round g level c (length g.platforms) 0 x ms y → Ends g ms y → Round g level c (length g.platforms) 0 x ns mid → Each (λ (m : Made). m.fault ≡ false) ns → (AreFinished g mid → ⊥) → ⊥
+  no_more : (c b : ℕ) (x y mid : RunState) (ms ns : List VisitRecord) → Onward g level rows offset c x → Round g level c (length g.platforms) 0 x ms y → Ends g ms y → Round g level c (length g.platforms) 0 x ns mid → Each (λ (m : VisitRecord). m.fault ≡ false) ns → (AreFinished g mid → ⊥) → ⊥
   no_more c b x y mid ms ns h r ends q fine going =
       let same = round_one c (length g.platforms) 0 x y mid ms ns (omega arith) h r q in
       ⊎_elim
       (λ (done : AreFinished g y). going (subst (AreFinished g) same.1 done))
-      (λ (faulty : Each (λ (m : Made). m.fault ≡ false) ms → ⊥). faulty (subst (Each (λ (m : Made). m.fault ≡ false)) (sym same.0) fine))
+      (λ (faulty : Each (λ (m : VisitRecord). m.fault ≡ false) ms → ⊥). faulty (subst (Each (λ (m : VisitRecord). m.fault ≡ false)) (sym same.0) fine))
       ends
 
-  whole_one : (rounds others : List (List Made)) (c d e : ℕ) (x v w y z : Together) (ms ns : List Made) → Onward g level rows offset c x →
+  whole_one : (rounds others : List (List VisitRecord)) (c d e : ℕ) (x v w y z : RunState) (ms ns : List VisitRecord) → Onward g level rows offset c x →
       Rounds g level c x rounds d v → Round g level d (length g.platforms) 0 v ms y → Ends g ms y →
       Rounds g level c x others e w → Round g level e (length g.platforms) 0 w ns z → Ends g ns z → (ms ≡ ns) × (y ≡ z)
   whole_one [] [] c d e x v w y z ms ns h (ed, ev) r ends (ee, ew) q ends2 =
@@ -89,13 +89,13 @@ module _ (g : Graph) (level : ℕ → ℕ) (rows : ℕ → List Row) (offset : U
       whole_one rounds others b d e mid v w y z ms ns on rest r ends
       (subst (λ n. Rounds g level n mid others e w) (sym reading) (subst (λ s. Rounds g level b2 s others e w) (sym same.1) rest2)) q ends2
 
-  runs_one : (y z : Together) (a : IsWholeRun g level rows y) (b : IsWholeRun g level rows z) → (a.made ≡ b.made) × (y ≡ z)
+  runs_one : (y z : RunState) (a : IsWholeRun g level rows y) (b : IsWholeRun g level rows z) → (a.made ≡ b.made) × (y ≡ z)
   runs_one y z a b =
-      let start : a.run.begins ≡ b.run.begins = next_one g (together_at_start g rows) a.run.begins b.run.begins a.run.begins_at b.run.begins_at in
-      whole_one a.rounds b.rounds a.run.begins a.reading b.reading (together_at_start g rows) a.before b.before y z a.made b.made
+      let start : a.run.begins ≡ b.run.begins = next_one g (run_at_start g rows) a.run.begins b.run.begins a.run.begins_at b.run.begins_at in
+      whole_one a.rounds b.rounds a.run.begins a.reading b.reading (run_at_start g rows) a.before b.before y z a.made b.made
       (start_onward g level rows offset wired are fits feasible has a.run.begins a.run.begins_at)
       a.run.goes a.round a.ends
-      (subst (λ n. Rounds g level n (together_at_start g rows) b.rounds b.reading b.before) (sym start) b.run.goes) b.round b.ends
+      (subst (λ n. Rounds g level n (run_at_start g rows) b.rounds b.reading b.before) (sym start) b.run.goes) b.round b.ends
 
 pub runs_are_one : WholeRunsAreOne
 runs_are_one g level rows y z a b =
@@ -104,4 +104,4 @@ runs_are_one g level rows y z a b =
 
 pub paced_is_one : PacedIsOne
 paced_is_one g level rows offset histories others wired are fits feasible has a b i lt =
-    a.2 i lt ∙ ap (λ (y : Together). kept (y.did i)) (runs_one g level rows offset wired are fits feasible has a.0 b.0 a.1 b.1).1 ∙ sym (b.2 i lt)
+    a.2 i lt ∙ ap (λ (y : RunState). kept (y.did i)) (runs_one g level rows offset wired are fits feasible has a.0 b.0 a.1 b.1).1 ∙ sym (b.2 i lt)

@@ -12,7 +12,7 @@ use Rattle.pt_semantics.specs.History.{Legal, IsLegal}
 use Rattle.pt_semantics.specs.Linked.{IsFinished, all_sent, all_taken}
 use Rattle.pt_semantics.specs.Kept.{kept}
 use Rattle.pt_laws.specs.HistoryTheorems.{IsSame}
-use Rattle.pt_semantics.specs.Visits.{Together, together_at_start, Made}
+use Rattle.pt_semantics.specs.Visits.{RunState, run_at_start, VisitRecord}
 use Rattle.pt_semantics.specs.Rounds.{Rounds}
 use Rattle.pt_paced_laws.specs.PacedTheorems.{PacedAreLegal}
 use Rattle.pt_laws.proofs.KeptTurns.{kept_is_legal}
@@ -41,16 +41,16 @@ push_on g level i (x ∷ turns) turn late s mid new (late2, one, ix, on2, rest) 
 
 module _ (g : Graph) (level : ℕ → ℕ) (rows : ℕ → List Row) (c : ℕ → ℕ) where
   -- none of this platform's turns is a last one
-  abbrev pub Going : Together → ℕ → Type 0
+  abbrev pub Going : RunState → ℕ → Type 0
   Going x p = GoesOn g level p (opened g p rows) (x.did p) (x.at p)
 
-  abbrev pub Lawful : Together → ℕ → Type 0
+  abbrev pub Lawful : RunState → ℕ → Type 0
   Lawful x p = Legal g level p (opened g p rows) (x.did p) (x.at p)
 
-  not_last : (x y : Together) (m : Made) (k : Advances g level (c m.platform) x m y) → m.fault ≡ false → IsLast g (x.at m.platform) m.turn.last m.late k.is.ready → ⊥
+  not_last : (x y : RunState) (m : VisitRecord) (k : Advances g level (c m.platform) x m y) → m.fault ≡ false → IsLast g (x.at m.platform) m.turn.last m.late k.is.ready → ⊥
   not_last x y m k fine last = false≢true (sym fine ∙ k.faults.0 (subst (λ r. IsLast g (x.at m.platform) r m.late k.is.ready) k.last last))
 
-  going_advance : (x y : Together) (m : Made) → Advances g level (c m.platform) x m y → m.fault ≡ false → ((p : ℕ) → Going x p) → (p : ℕ) → Going y p
+  going_advance : (x y : RunState) (m : VisitRecord) → Advances g level (c m.platform) x m y → m.fault ≡ false → ((p : ℕ) → Going x p) → (p : ℕ) → Going y p
   going_advance x y m k fine h p =
       ⊎_elim
       (λ (here : p ≡ m.platform).
@@ -60,28 +60,28 @@ module _ (g : Graph) (level : ℕ → ℕ) (rows : ℕ → List Row) (c : ℕ �
       (λ (there : p ≢ m.platform). stays x y p (k.others p there) (h p))
       (cases_same p m.platform)
     where
-      stays : (x y : Together) (p : ℕ) → (y.at p ≡ x.at p) × (y.did p ≡ x.did p) → Going x p → Going y p
+      stays : (x y : RunState) (p : ℕ) → (y.at p ≡ x.at p) × (y.did p ≡ x.did p) → Going x p → Going y p
       stays x y p same h = subst (λ l. GoesOn g level p (opened g p rows) l (y.at p)) (sym same.1) (subst (GoesOn g level p (opened g p rows) (x.did p)) (sym same.0) h)
 
-  lawful_stays : (x y : Together) (p : ℕ) → (y.at p ≡ x.at p) × (y.did p ≡ x.did p) → Lawful x p → Lawful y p
+  lawful_stays : (x y : RunState) (p : ℕ) → (y.at p ≡ x.at p) × (y.did p ≡ x.did p) → Lawful x p → Lawful y p
   lawful_stays x y p same h = subst (λ l. Legal g level p (opened g p rows) l (y.at p)) (sym same.1) (subst (Legal g level p (opened g p rows) (x.did p)) (sym same.0) h)
 
-  going_stays : (x y : Together) (p : ℕ) → (y.at p ≡ x.at p) × (y.did p ≡ x.did p) → Going x p → Going y p
+  going_stays : (x y : RunState) (p : ℕ) → (y.at p ≡ x.at p) × (y.did p ≡ x.did p) → Going x p → Going y p
   going_stays x y p same h = subst (λ l. GoesOn g level p (opened g p rows) l (y.at p)) (sym same.1) (subst (GoesOn g level p (opened g p rows) (x.did p)) (sym same.0) h)
 
   -- rounds without a fault
-  pub round_goes : (n i : ℕ) (x y : Together) (ms : List Made) → AdvanceRound g level c n i x ms y → Each (λ (m : Made). m.fault ≡ false) ms → ((p : ℕ) → Going x p) → (p : ℕ) → Going y p
+  pub round_goes : (n i : ℕ) (x y : RunState) (ms : List VisitRecord) → AdvanceRound g level c n i x ms y → Each (λ (m : VisitRecord). m.fault ≡ false) ms → ((p : ℕ) → Going x p) → (p : ℕ) → Going y p
   round_goes zero i x y ms (none, same) fine h = subst (λ z. (p : ℕ) → Going z p) (sym same) h
   round_goes (suc n) i x y ms r fine h =
       ⊎_elim
       (λ (skip : IsFinished g i (x.at i) × AdvanceRound g level c n (suc i) x ms y). round_goes n (suc i) x y ms skip.1 fine h)
-      (λ (one : (IsFinished g i (x.at i) → ⊥) × (m : Made) × (rest : List Made) × (mid : Together) × (ms ≡ m ∷ rest) × (m.platform ≡ i) × Advances g level (c m.platform) x m mid × AdvanceRound g level c n (suc i) mid rest y).
-      let fine2 : Each (λ (m : Made). m.fault ≡ false) (one.1 ∷ one.2) = subst (Each (λ (m : Made). m.fault ≡ false)) one.4 fine in
+      (λ (one : (IsFinished g i (x.at i) → ⊥) × (m : VisitRecord) × (rest : List VisitRecord) × (mid : RunState) × (ms ≡ m ∷ rest) × (m.platform ≡ i) × Advances g level (c m.platform) x m mid × AdvanceRound g level c n (suc i) mid rest y).
+      let fine2 : Each (λ (m : VisitRecord). m.fault ≡ false) (one.1 ∷ one.2) = subst (Each (λ (m : VisitRecord). m.fault ≡ false)) one.4 fine in
       round_goes n (suc i) one.3 y one.2 one.7 fine2.1 (going_advance x one.3 one.1 one.6 fine2.0 h))
       r
 
   -- the last round, with a fault or without
-  pub round_ends : (n i : ℕ) (x y : Together) (ms : List Made) → AdvanceRound g level c n i x ms y → ((p : ℕ) → p < i → Lawful x p) → ((p : ℕ) → i ≤ p → Going x p) → (p : ℕ) → Lawful y p
+  pub round_ends : (n i : ℕ) (x y : RunState) (ms : List VisitRecord) → AdvanceRound g level c n i x ms y → ((p : ℕ) → p < i → Lawful x p) → ((p : ℕ) → i ≤ p → Going x p) → (p : ℕ) → Lawful y p
   round_ends zero i x y ms (none, same) before after = subst (λ z. (p : ℕ) → Lawful z p) (sym same) all
     where
       all : (p : ℕ) → Lawful x p
@@ -92,13 +92,13 @@ module _ (g : Graph) (level : ℕ → ℕ) (rows : ℕ → List Row) (c : ℕ �
       round_ends n (suc i) x y ms skip.1
       (λ p l. ⊎_elim (λ (k : p < i). before p k) (λ (k : i ≤ p). goes_legal g level p (x.did p) (opened g p rows) (x.at p) (after p k)) (cases_lt p i))
       (λ p k. after p (omega (arith, k))))
-      (λ (one : (IsFinished g i (x.at i) → ⊥) × (m : Made) × (rest : List Made) × (mid : Together) × (ms ≡ m ∷ rest) × (m.platform ≡ i) × Advances g level (c m.platform) x m mid × AdvanceRound g level c n (suc i) mid rest y).
+      (λ (one : (IsFinished g i (x.at i) → ⊥) × (m : VisitRecord) × (rest : List VisitRecord) × (mid : RunState) × (ms ≡ m ∷ rest) × (m.platform ≡ i) × Advances g level (c m.platform) x m mid × AdvanceRound g level c n (suc i) mid rest y).
       round_ends n (suc i) one.3 y one.2 one.7
       (advance_lawful x one.3 one.1 one.5 one.6 before after)
       (λ p k. going_stays x one.3 p (one.6.others p (λ e. is_above p i one.1.platform k e one.5)) (after p (omega (arith, k)))))
       r
     where
-      advance_lawful : (x mid : Together) (m : Made) → m.platform ≡ i → Advances g level (c m.platform) x m mid → ((p : ℕ) → p < i → Lawful x p) → ((p : ℕ) → i ≤ p → Going x p) → (p : ℕ) → p < suc i → Lawful mid p
+      advance_lawful : (x mid : RunState) (m : VisitRecord) → m.platform ≡ i → Advances g level (c m.platform) x m mid → ((p : ℕ) → p < i → Lawful x p) → ((p : ℕ) → i ≤ p → Going x p) → (p : ℕ) → p < suc i → Lawful mid p
       advance_lawful x mid m home k before after p l =
           ⊎_elim
           (λ (here : p ≡ m.platform).
@@ -111,7 +111,7 @@ module _ (g : Graph) (level : ℕ → ℕ) (rows : ℕ → List Row) (c : ℕ �
           less : (p i q : ℕ) → p < suc i → p ≢ q → q ≡ i → p < i
           less p i q l other e = ⊎_elim (λ (k : p < i). k) (λ (k : i ≤ p). absurd (other (omega (arith, k, l, e)))) (cases_lt p i)
 
-rounds_go : (g : Graph) (level : ℕ → ℕ) (rows : ℕ → List Row) (rounds : List (List Made)) (c d : ℕ) (x y : Together) → Rounds g level c x rounds d y → ((p : ℕ) → Going g level rows (λ i. c) x p) → (p : ℕ) → Going g level rows (λ i. d) y p
+rounds_go : (g : Graph) (level : ℕ → ℕ) (rows : ℕ → List Row) (rounds : List (List VisitRecord)) (c d : ℕ) (x y : RunState) → Rounds g level c x rounds d y → ((p : ℕ) → Going g level rows (λ i. c) x p) → (p : ℕ) → Going g level rows (λ i. d) y p
 rounds_go g level rows [] c d x y (e, same) h = subst (λ z. (p : ℕ) → GoesOn g level p (opened g p rows) (z.did p) (z.at p)) (sym same) h
 rounds_go g level rows (ms ∷ rounds) c d x y (b, mid, round, fine, going, follows, rest) h =
     rounds_go g level rows rounds b d mid y rest (round_goes g level rows (λ i. c) (length g.platforms) 0 x mid ms (round_advances g level c (length g.platforms) 0 x ms mid round) fine h)
@@ -126,7 +126,7 @@ paced_are_legal g level rows offset y wired are fits feasible has run = (
 )
   where
     begin : (p : ℕ) → GoesOn g level p (opened g p rows) (run.before.did p) (run.before.at p)
-    begin = rounds_go g level rows run.rounds run.run.begins run.reading (together_at_start g rows) run.before run.run.goes (λ p. refl)
+    begin = rounds_go g level rows run.rounds run.run.begins run.reading (run_at_start g rows) run.before run.run.goes (λ p. refl)
 
     ended : (p : ℕ) → Legal g level p (opened g p rows) (y.did p) (y.at p)
     ended = round_ends g level rows (λ i. run.reading) (length g.platforms) 0 run.before y run.made (round_advances g level run.reading (length g.platforms) 0 run.before run.made y run.round) (λ p l. absurd (omega (arith, l))) (λ p k. begin p)

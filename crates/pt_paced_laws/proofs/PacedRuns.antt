@@ -27,7 +27,7 @@ use Rattle.pt_tags.specs.declared.message.Message.TheVariants.{Event, End}
 use Rattle.pt_semantics.specs.Rows.{FitRows}
 use Rattle.pt_semantics.specs.Paced.{paced_by, IsClosing, IsPaced}
 use Rattle.pt_semantics.specs.Rounds.{Makes, Round, IsQuietRound, IsLeastNext, Rounds, IsPacedRun}
-use Rattle.pt_semantics.specs.Visits.{Together, together_at_start, Made}
+use Rattle.pt_semantics.specs.Visits.{RunState, run_at_start, VisitRecord}
 use Rattle.pt_paced_laws.specs.PacedTheorems.{NoneLate, TimelyWhenPaced, MissedWhenPaced}
 use Rattle.pt_semantics.proofs.Longest.{levels_grow}
 use Rattle.pt_semantics.proofs.Lookups.{Each-in, IsIn-append_left, IsIn-append_right}
@@ -42,22 +42,22 @@ use Rattle.pt_laws.proofs.Onward.{Onward, cases_same, round_onward}
 use Rattle.pt_laws.proofs.Raise.{Rests, quiet_makes, raise_near, start_near}
 use Rattle.pt_paced_laws.proofs.Places.{is_above, is_below, is_later, is_passed, none_left, not_before, one_fewer}
 
-pub round_leaves : (g : Graph) (level : ℕ → ℕ) (c n i : ℕ) (x y : Together) (ms : List Made) → Round g level c n i x ms y → (j : ℕ) → j < i → y.at j ≡ x.at j
-round_leaves g level c zero i x y ms r j lt = ap (λ (z : Together). z.at j) r.1
+pub round_leaves : (g : Graph) (level : ℕ → ℕ) (c n i : ℕ) (x y : RunState) (ms : List VisitRecord) → Round g level c n i x ms y → (j : ℕ) → j < i → y.at j ≡ x.at j
+round_leaves g level c zero i x y ms r j lt = ap (λ (z : RunState). z.at j) r.1
 round_leaves g level c (suc n) i x y ms r j lt =
     ⊎_elim
     (λ (done : IsFinished g i (x.at i) × Round g level c n (suc i) x ms y). round_leaves g level c n (suc i) x y ms done.1 j (omega arith))
-    (λ (one : (IsFinished g i (x.at i) → ⊥) × (m : Made) × (rest : List Made) × (mid : Together) × (ms ≡ m ∷ rest) × (m.platform ≡ i) × Makes g level c x m mid × Round g level c n (suc i) mid rest y).
+    (λ (one : (IsFinished g i (x.at i) → ⊥) × (m : VisitRecord) × (rest : List VisitRecord) × (mid : RunState) × (ms ≡ m ∷ rest) × (m.platform ≡ i) × Makes g level c x m mid × Round g level c n (suc i) mid rest y).
     round_leaves g level c n (suc i) one.3 y one.2 one.7 j (omega arith) ∙ (one.6.others j (λ e. is_below j i one.1.platform lt e one.5)).0)
     r
 
 -- a quiet round leaves what is on the links, and each platform at rest or finished
-abbrev pub Settles : Graph → ℕ → Together → ℕ → Type 0
+abbrev pub Settles : Graph → ℕ → RunState → ℕ → Type 0
 Settles g c y j = IsFinished g j (y.at j) ⊎ Rests g c j (y.at j) y.on_way
 
-pub quiet_round : (g : Graph) (level : ℕ → ℕ) (c n i : ℕ) (x y : Together) (ms : List Made) → Round g level c n i x ms y → Each (λ (m : Made). m.late ≡ false) ms → Each (λ (m : Made). is_quiet m.turn ≡ true) ms → Each (λ (m : Made). m.fault ≡ false) ms → ((j : ℕ) → i ≤ j → (y.at j).closed ≡ (x.at j).closed) →
+pub quiet_round : (g : Graph) (level : ℕ → ℕ) (c n i : ℕ) (x y : RunState) (ms : List VisitRecord) → Round g level c n i x ms y → Each (λ (m : VisitRecord). m.late ≡ false) ms → Each (λ (m : VisitRecord). is_quiet m.turn ≡ true) ms → Each (λ (m : VisitRecord). m.fault ≡ false) ms → ((j : ℕ) → i ≤ j → (y.at j).closed ≡ (x.at j).closed) →
     ((l : ℕ) → y.on_way l ≡ x.on_way l) × ((j : ℕ) → i ≤ j → j < n + i → Settles g c y j)
-quiet_round g level c zero i x y ms r late quiet fine closed = ((λ l. ap (λ (z : Together). z.on_way l) r.1), (λ j a b. absurd (none_left i j a b)))
+quiet_round g level c zero i x y ms r late quiet fine closed = ((λ l. ap (λ (z : RunState). z.on_way l) r.1), (λ j a b. absurd (none_left i j a b)))
 quiet_round g level c (suc n) i x y ms r late quiet fine closed =
     ⊎_elim
     (λ (done : IsFinished g i (x.at i) × Round g level c n (suc i) x ms y).
@@ -69,12 +69,12 @@ quiet_round g level c (suc n) i x y ms r late quiet fine closed =
           (λ (there : j ≢ i). on.1 j (is_later i j le there) (one_fewer n i j lt))
           (cases_same j i),
     ))
-    (λ (one : (IsFinished g i (x.at i) → ⊥) × (m : Made) × (rest : List Made) × (mid : Together) × (ms ≡ m ∷ rest) × (m.platform ≡ i) × Makes g level c x m mid × Round g level c n (suc i) mid rest y).
-    let m : Made = one.1 in
-    let mid : Together = one.3 in
-    let l2 : Each (λ (z : Made). z.late ≡ false) (m ∷ one.2) = subst (Each (λ (z : Made). z.late ≡ false)) one.4 late in
-    let q2 : Each (λ (z : Made). is_quiet z.turn ≡ true) (m ∷ one.2) = subst (Each (λ (z : Made). is_quiet z.turn ≡ true)) one.4 quiet in
-    let f2 : Each (λ (z : Made). z.fault ≡ false) (m ∷ one.2) = subst (Each (λ (z : Made). z.fault ≡ false)) one.4 fine in
+    (λ (one : (IsFinished g i (x.at i) → ⊥) × (m : VisitRecord) × (rest : List VisitRecord) × (mid : RunState) × (ms ≡ m ∷ rest) × (m.platform ≡ i) × Makes g level c x m mid × Round g level c n (suc i) mid rest y).
+    let m : VisitRecord = one.1 in
+    let mid : RunState = one.3 in
+    let l2 : Each (λ (z : VisitRecord). z.late ≡ false) (m ∷ one.2) = subst (Each (λ (z : VisitRecord). z.late ≡ false)) one.4 late in
+    let q2 : Each (λ (z : VisitRecord). is_quiet z.turn ≡ true) (m ∷ one.2) = subst (Each (λ (z : VisitRecord). is_quiet z.turn ≡ true)) one.4 quiet in
+    let f2 : Each (λ (z : VisitRecord). z.fault ≡ false) (m ∷ one.2) = subst (Each (λ (z : VisitRecord). z.fault ≡ false)) one.4 fine in
     let leaves : y.at m.platform ≡ mid.at m.platform = round_leaves g level c n (suc i) mid y one.2 one.7 m.platform (is_passed m.platform i one.5) in
     let closed_here : (mid.at m.platform).closed ≡ (x.at m.platform).closed = ap (λ (z : State). z.closed) (sym leaves) ∙ closed m.platform (not_before m.platform i one.5) in
     let qm = quiet_makes g level c x mid m q2.0 l2.0 f2.0 closed_here one.6 in
@@ -109,14 +109,14 @@ module _ (g : Graph) (level : ℕ → ℕ) (rows : ℕ → List Row) (offset : U
   up : HasLevels g level
   up = levels_grow g level are
 
-  pub whole_of : (c : ℕ) (x : Together) (i : ℕ) → i < length g.platforms → Onward g level rows offset c x → Whole g level i rows (x.at i) (x.at i).reading (claims_of g (x.did i)) (λ l. all_sent l (x.did i)) (λ l. all_taken l (x.did i))
+  pub whole_of : (c : ℕ) (x : RunState) (i : ℕ) → i < length g.platforms → Onward g level rows offset c x → Whole g level i rows (x.at i) (x.at i).reading (claims_of g (x.did i)) (λ l. all_sent l (x.did i)) (λ l. all_taken l (x.did i))
   whole_of c x i lt h = on_time_history g level i rows wired up fits (x.did i) (x.at i) (h.legal i lt)
 
-  pub start_onward : (b : ℕ) → IsLeastNext g (together_at_start g rows) b → Onward g level rows offset b (together_at_start g rows)
+  pub start_onward : (b : ℕ) → IsLeastNext g (run_at_start g rows) b → Onward g level rows offset b (run_at_start g rows)
   start_onward b next = start_near g level rows offset has wired up fits (λ i. b) (λ i lt d cand. next.least i d lt refl cand)
 
   -- where all platforms rest or are finished, no message is on its way
-  pub way_empty : (c : ℕ) (y : Together) → Onward g level rows offset c y → ((i : ℕ) → i < length g.platforms → Settles g c y i) → (l : ℕ) (link : Link) → slice_get g.links l ≡ Some link → y.on_way l ≡ []
+  pub way_empty : (c : ℕ) (y : RunState) → Onward g level rows offset c y → ((i : ℕ) → i < length g.platforms → Settles g c y i) → (l : ℕ) (link : Link) → slice_get g.links l ≡ Some link → y.on_way l ≡ []
   way_empty c y h settled l link at =
       ⊎_elim
       (λ (done : IsFinished g (platform_of g link.to) (y.at (platform_of g link.to))).
@@ -128,7 +128,7 @@ module _ (g : Graph) (level : ℕ → ℕ) (rows : ℕ → List Row) (offset : U
       (λ (rests : Rests g c (platform_of g link.to) (y.at (platform_of g link.to)) y.on_way). rests.took_all l link at refl)
       (settled (platform_of g link.to) (wired.homes link.to))
 
-  pub outbox_empty : (c : ℕ) (y : Together) → Onward g level rows offset c y → ((i : ℕ) → i < length g.platforms → Settles g c y i) → (i : ℕ) → i < length g.platforms → (l : ℕ) → (y.at i).outbox l ≡ []
+  pub outbox_empty : (c : ℕ) (y : RunState) → Onward g level rows offset c y → ((i : ℕ) → i < length g.platforms → Settles g c y i) → (i : ℕ) → i < length g.platforms → (l : ℕ) → (y.at i).outbox l ≡ []
   outbox_empty c y h settled i lt l =
       ⊎_elim
       (λ (done : IsFinished g i (y.at i)). done.all_went l)
@@ -139,7 +139,7 @@ module _ (g : Graph) (level : ℕ → ℕ) (rows : ℕ → List Row) (offset : U
       (rests.sent_all l))
       (settled i lt)
 
-  pub free_all : (c : ℕ) (y : Together) → Onward g level rows offset c y → ((i : ℕ) → i < length g.platforms → Settles g c y i) → (i : ℕ) → i < length g.platforms → (u : Unit) → (y.at i).busy u ≡ None
+  pub free_all : (c : ℕ) (y : RunState) → Onward g level rows offset c y → ((i : ℕ) → i < length g.platforms → Settles g c y i) → (i : ℕ) → i < length g.platforms → (u : Unit) → (y.at i).busy u ≡ None
   free_all c y h settled i lt u =
       ⊎_elim
       (λ (done : IsFinished g i (y.at i)). ((whole_of c y i lt h).keeps.is_shut done.closed).busy u)
@@ -147,7 +147,7 @@ module _ (g : Graph) (level : ℕ → ℕ) (rows : ℕ → List Row) (offset : U
       (settled i lt)
 
   -- the next reading is past this one
-  pub no_closing : (c b : ℕ) (y : Together) → Onward g level rows offset c y → ((i : ℕ) → i < length g.platforms → Settles g c y i) → (i : ℕ) → i < length g.platforms → (y.at i).closed ≡ false → IsClosing g i b → b ≤ c → ⊥
+  pub no_closing : (c b : ℕ) (y : RunState) → Onward g level rows offset c y → ((i : ℕ) → i < length g.platforms → Settles g c y i) → (i : ℕ) → i < length g.platforms → (y.at i).closed ≡ false → IsClosing g i b → b ≤ c → ⊥
   no_closing c b y h settled i lt open_still closing le =
       ⊎_elim
       (λ (done : IsFinished g i (y.at i)). false≢true (sym open_still ∙ done.closed))
@@ -170,7 +170,7 @@ module _ (g : Graph) (level : ℕ → ℕ) (rows : ℕ → List Row) (offset : U
       })))
       (settled i lt)
 
-  rises_to : (c b : ℕ) (y : Together) → Onward g level rows offset c y → ((i : ℕ) → i < length g.platforms → Settles g c y i) → IsLeastNext g y b → c ≤ b
+  rises_to : (c b : ℕ) (y : RunState) → Onward g level rows offset c y → ((i : ℕ) → i < length g.platforms → Settles g c y i) → IsLeastNext g y b → c ≤ b
   rises_to c b y h settled next =
       let i : ℕ = next.one.0 in
       let lt : i < length g.platforms = next.one.1 in
@@ -197,13 +197,13 @@ module _ (g : Graph) (level : ℕ → ℕ) (rows : ℕ → List Row) (offset : U
           up_same : (z : Tag) → UpTo (plus z zero_delay) z
           up_same z = omega arith
 
-  pub raise_onward : (c b : ℕ) (y : Together) → Onward g level rows offset c y → ((i : ℕ) → i < length g.platforms → Settles g c y i) → IsLeastNext g y b → Onward g level rows offset b y
+  pub raise_onward : (c b : ℕ) (y : RunState) → Onward g level rows offset c y → ((i : ℕ) → i < length g.platforms → Settles g c y i) → IsLeastNext g y b → Onward g level rows offset b y
   raise_onward c b y h settled next =
       raise_near g level rows offset has wired up fits (λ i. c) (λ i. b) y h (λ i lt. rises_to c b y h settled next) (free_all c y h settled) (outbox_empty c y h settled)
       (λ i lt still d cand. next.least i d lt still cand)
       (λ l link t v at m. let none : IsIn (Event t v) [] = subst (IsIn (Event t v)) (way_empty c y h settled l link at) m in absurd none)
 
-  pub rounds_onward : (rounds : List (List Made)) (c d : ℕ) (x y : Together) → Onward g level rows offset c x → Rounds g level c x rounds d y → Onward g level rows offset d y
+  pub rounds_onward : (rounds : List (List VisitRecord)) (c d : ℕ) (x y : RunState) → Onward g level rows offset c x → Rounds g level c x rounds d y → Onward g level rows offset d y
   rounds_onward [] c d x y h (e, same) = subst (λ n. Onward g level rows offset n y) (sym e) (subst (Onward g level rows offset c) (sym same) h)
   rounds_onward (ms ∷ rounds) c d x y h (b, mid, round, fine, on_going, follows, rest) =
       let on = round_onward g level rows offset has wired feasible c (length g.platforms) 0 x mid ms (omega arith) h round in
@@ -216,8 +216,8 @@ module _ (g : Graph) (level : ℕ → ℕ) (rows : ℕ → List Row) (offset : U
       follows in
       rounds_onward rounds b d mid y next rest
 
-  pub run_onward : (rounds : List (List Made)) (d : ℕ) (y : Together) → IsPacedRun g level rows rounds d y → Onward g level rows offset d y
-  run_onward rounds d y run = rounds_onward rounds run.begins d (together_at_start g rows) y (start_onward run.begins run.begins_at) run.goes
+  pub run_onward : (rounds : List (List VisitRecord)) (d : ℕ) (y : RunState) → IsPacedRun g level rows rounds d y → Onward g level rows offset d y
+  run_onward rounds d y run = rounds_onward rounds run.begins d (run_at_start g rows) y (start_onward run.begins run.begins_at) run.goes
 
 pub none_late : NoneLate
 none_late g level rows offset rounds c n ms y wired are fits feasible has r =

@@ -27,7 +27,7 @@ use Rattle.pt_semantics.specs.History.{claims_of}
 use Rattle.pt_tags.specs.declared.message.Message.TheVariants.{Event, End}
 use Rattle.pt_semantics.specs.Rows.{FitRows}
 use Rattle.pt_semantics.specs.Paced.{paced_by}
-use Rattle.pt_semantics.specs.Visits.{Together}
+use Rattle.pt_semantics.specs.Visits.{RunState}
 use Rattle.pt_paced_laws.specs.PacedTheorems.{PacedIsPrefix}
 use Rattle.pt_semantics.proofs.Tags.{Before-trans, cases_tags, same_tag-true}
 use Rattle.pt_semantics.proofs.Longest.{levels_grow, ranks_grow, sum_time, sum_step}
@@ -58,27 +58,27 @@ along_push g x [] e h m = (m, sym h, refl)
 along_push g x (d ∷ path) e (md, src, rest) m = (md, src, along_push g (target g d) path e rest m)
 
 -- what is still to be done in a run: at this unit's input, at this tag
-pub record Remains (g : Graph) (y : Together) (D : (Unit → Tag → Type 0)) : Type 0 where
+pub record Remains (g : Graph) (y : RunState) (D : (Unit → Tag → Type 0)) : Type 0 where
   pub waits : (i a p : ℕ) (w : Tag) (v : ℤ) → i < length g.platforms → p < 8 → (y.at i).waits a p w ≡ Some v → D (at_input g a p) w
   pub left : (i a : ℕ) (row : Row) → i < length g.platforms → IsIn row ((y.at i).left a) → D (at_input g a 0) (at_time row.time)
   pub messages : (l : ℕ) (link : Link) (w : Tag) (v : ℤ) → slice_get g.links l ≡ Some link → IsIn (Event w v) (y.on_way l ++ (y.at (platform_of g link.from)).outbox l) → D (at_input g link.to 0) w
 
 -- nothing that is still to be done leads to u at t or before, nor does anything that is open, but a claim of u itself
-pub record IsPast (g : Graph) (y : Together) (u : Unit) (t : Tag) : Type 0 where
+pub record IsPast (g : Graph) (y : RunState) (u : Unit) (t : Tag) : Type 0 where
   pub remains : Remains g y (λ x w. (path : List Edge) → Along g x path u → Before t (plus w (sum_along path)))
   pub busy : (i : ℕ) (x : Unit) (task : Task) (e : Edge) (path : List Edge) → i < length g.platforms → (y.at i).busy x ≡ Some task → Along g x (e ∷ path) u → Before t (plus task.tag (sum_along (e ∷ path)))
 
 pub before_push : (s w : Tag) (d e f : Delay) → f.time ≡ d.time + e.time → f.step ≡ d.step + e.step → Before (plus s e) (plus w f) → Before s (plus w d)
 before_push s w d e f et es h = omega arith
 
-map_remains : (g : Graph) (y : Together) (D E : Unit → Tag → Type 0) → ((x : Unit) (w : Tag) → D x w → E x w) → Remains g y D → Remains g y E
+map_remains : (g : Graph) (y : RunState) (D E : Unit → Tag → Type 0) → ((x : Unit) (w : Tag) → D x w → E x w) → Remains g y D → Remains g y E
 map_remains g y D E up h = record {
   waits = λ i a p w v lt below there. up (at_input g a p) w (h.waits i a p w v lt below there);
   left = λ i a row lt m. up (at_input g a 0) (at_time row.time) (h.left i a row lt m);
   messages = λ l link w v at m. up (at_input g link.to 0) w (h.messages l link w v at m);
 }
 
-pub past_is_closed : (g : Graph) (y : Together) → IsClosed g (IsPast g y)
+pub past_is_closed : (g : Graph) (y : RunState) → IsClosed g (IsPast g y)
 past_is_closed g y = record {
   earlier = λ u s t l h. record {
     remains = map_remains g y (λ x w. (path : List Edge) → Along g x path u → Before t (plus w (sum_along path))) (λ x w. (path : List Edge) → Along g x path u → Before s (plus w (sum_along path)))
@@ -177,7 +177,7 @@ not_itself t h = grind arith
 pub not_one : (t : Tag) (d : Delay) → Before (plus t d) (plus t (then d zero_delay)) → ⊥
 not_one t d h = grind arith
 
-module _ (g : Graph) (level : ℕ → ℕ) (rows : ℕ → List Row) (offset : Unit → Option ℤ) (wired : IsWired g) (are : AreLevels g level) (fits : FitRows g rows) (feasible : IsFeasible g) (has : (u : Unit) → HasOffset g u (offset u)) (c : ℕ → ℕ) (near : AreNear g c) (y : Together) (h : OnwardNear g level rows offset c y) where
+module _ (g : Graph) (level : ℕ → ℕ) (rows : ℕ → List Row) (offset : Unit → Option ℤ) (wired : IsWired g) (are : AreLevels g level) (fits : FitRows g rows) (feasible : IsFeasible g) (has : (u : Unit) → HasOffset g u (offset u)) (c : ℕ → ℕ) (near : AreNear g c) (y : RunState) (h : OnwardNear g level rows offset c y) where
   -- what is still to be done is no sooner than the reading at each unit to which it leads
   pub later_path : (path : List Edge) (x u : Unit) (w : Tag) → Along g x path u → c (platform_of g x.actor) ≤ paced_by (offset x) w → c (platform_of g u.actor) ≤ paced_by (offset u) (plus w (sum_along path))
   later_path [] x u w go le = subst (λ z. c (platform_of g z.actor) ≤ paced_by (offset z) (plus w zero_delay)) go (subst (λ z. c (platform_of g x.actor) ≤ paced_by (offset x) z) (sym (plus_zero w)) le)

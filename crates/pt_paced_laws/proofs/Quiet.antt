@@ -20,7 +20,7 @@ use Rattle.pt_tags.specs.declared.message.Message.TheVariants.{End}
 use Rattle.pt_semantics.specs.Rows.{FitsRow}
 use Rattle.pt_semantics.specs.Paced.{IsCandidate, IsClosing, IsPaced}
 use Rattle.pt_semantics.specs.Rounds.{Makes, Round}
-use Rattle.pt_semantics.specs.Visits.{Together, Made}
+use Rattle.pt_semantics.specs.Visits.{RunState, VisitRecord}
 use Rattle.pt_paced_laws.specs.PacedTheorems.{NoTwoQuiet, QuietEnds}
 use Rattle.pt_semantics.proofs.Longest.{levels_grow}
 use Rattle.pt_semantics.proofs.Lookups.{Each-in, IsIn-append_right}
@@ -33,17 +33,17 @@ use Rattle.pt_paced_laws.proofs.PacedRuns.{round_leaves, quiet_round, Settles, r
 use Rattle.pt_paced_laws.proofs.Places.{is_later, is_passed, none_left, one_fewer}
 
 -- the turn of a platform that is not finished
-record Found (g : Graph) (level : ℕ → ℕ) (c j : ℕ) (y z : Together) (ns : List Made) : Type 0 where
-  from : Together
-  made : Made
-  mid : Together
+record Found (g : Graph) (level : ℕ → ℕ) (c j : ℕ) (y z : RunState) (ns : List VisitRecord) : Type 0 where
+  from : RunState
+  made : VisitRecord
+  mid : RunState
   makes : Makes g level c from made mid
   platform : made.platform ≡ j
   same : from.at j ≡ y.at j
   after : z.at j ≡ mid.at j
   mem : IsIn made ns
 
-find : (g : Graph) (level : ℕ → ℕ) (c n i j : ℕ) (y z : Together) (ns : List Made) → Round g level c n i y ns z → i ≤ j → j < n + i → (IsFinished g j (y.at j) → ⊥) → Found g level c j y z ns
+find : (g : Graph) (level : ℕ → ℕ) (c n i j : ℕ) (y z : RunState) (ns : List VisitRecord) → Round g level c n i y ns z → i ≤ j → j < n + i → (IsFinished g j (y.at j) → ⊥) → Found g level c j y z ns
 find g level c zero i j y z ns r le lt never = absurd (none_left i j le lt)
 find g level c (suc n) i j y z ns r le lt never =
     ⊎_elim
@@ -52,7 +52,7 @@ find g level c (suc n) i j y z ns r le lt never =
     (λ (here : j ≡ i). absurd (never (subst (λ k. IsFinished g k (y.at k)) (sym here) done.0)))
     (λ (there : j ≢ i). find g level c n (suc i) j y z ns done.1 (is_later i j le there) (one_fewer n i j lt) never)
     (cases_same j i))
-    (λ (one : (IsFinished g i (y.at i) → ⊥) × (m : Made) × (rest : List Made) × (mid : Together) × (ns ≡ m ∷ rest) × (m.platform ≡ i) × Makes g level c y m mid × Round g level c n (suc i) mid rest z).
+    (λ (one : (IsFinished g i (y.at i) → ⊥) × (m : VisitRecord) × (rest : List VisitRecord) × (mid : RunState) × (ns ≡ m ∷ rest) × (m.platform ≡ i) × Makes g level c y m mid × Round g level c n (suc i) mid rest z).
     ⊎_elim
     (λ (here : j ≡ i). record {
       from = y;
@@ -108,9 +108,9 @@ no_two_quiet g level rows offset rounds c b ms ns x y z wired are fits feasible 
     let lt : i < length g.platforms = next.one.1 in
     let f = find g level b (length g.platforms) 0 i y z ns second (omega arith) (omega arith) (λ fin. false≢true (sym next.one.2 ∙ fin.closed)) in
     stuck i lt next.one.2 next.one.3 at_y on2.1 (λ j l. settles2.1 j (omega arith) (omega arith)) f
-    (Each-in (λ (m : Made). is_quiet m.turn ≡ true) ns quiet2.quiet f.made f.mem)
-    (Each-in (λ (m : Made). m.late ≡ false) ns on2.0 f.made f.mem)
-    (Each-in (λ (m : Made). m.fault ≡ false) ns fine2 f.made f.mem)
+    (Each-in (λ (m : VisitRecord). is_quiet m.turn ≡ true) ns quiet2.quiet f.made f.mem)
+    (Each-in (λ (m : VisitRecord). m.late ≡ false) ns on2.0 f.made f.mem)
+    (Each-in (λ (m : VisitRecord). m.fault ≡ false) ns fine2 f.made f.mem)
   where
     stuck : (i : ℕ) → i < length g.platforms → (y.at i).closed ≡ false → IsCandidate g i (y.at i) b → Onward g level rows offset b y → Onward g level rows offset b z → ((j : ℕ) → j < length g.platforms → Settles g b z j) → (f : Found g level b i y z ns) → is_quiet f.made.turn ≡ true → f.made.late ≡ false → f.made.fault ≡ false → ⊥
     stuck i lt open_still cand at_y at_z settled f q on_time fine_turn =

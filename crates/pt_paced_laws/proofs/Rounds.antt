@@ -18,7 +18,7 @@ use Rattle.pt_semantics.specs.Rows.{FitRows}
 use Rattle.pt_semantics.specs.Rounds.{IsQuietRound, Makes, Round}
 use Rattle.pt_semantics.specs.Turn.{IsTurn, Turn}
 use Rattle.pt_semantics.specs.Units.{unit_of}
-use Rattle.pt_semantics.specs.Visits.{Made, Together}
+use Rattle.pt_semantics.specs.Visits.{VisitRecord, RunState}
 use Rattle.pt_semantics.specs.Wired.{IsWired}
 use Rattle.pt_semantics.proofs.Lookups.{none_some}
 use Rattle.pt_laws.proofs.Onward.{Onward, cases_same, makes_onward}
@@ -45,13 +45,13 @@ pub nothing_posted : (g : Graph) (ds : List Done) (s new : State) → ((u : Unit
 nothing_posted g [] s new free p = refl
 nothing_posted g (d ∷ ds) s new free (busy, result, rest) = absurd (none_some d.task (sym (free (unit_of g d.task)) ∙ busy))
 
-pub round_posts_nothing : (g : Graph) (level : ℕ → ℕ) (c n i : ℕ) (x y : Together) (ms : List Made) → Round g level c n i x ms y → IsFree x.at n i → Each (λ (m : Made). m.turn.posted ≡ []) ms
-round_posts_nothing g level c zero i x y ms round free = subst (Each (λ (m : Made). m.turn.posted ≡ [])) (sym round.0) tt
+pub round_posts_nothing : (g : Graph) (level : ℕ → ℕ) (c n i : ℕ) (x y : RunState) (ms : List VisitRecord) → Round g level c n i x ms y → IsFree x.at n i → Each (λ (m : VisitRecord). m.turn.posted ≡ []) ms
+round_posts_nothing g level c zero i x y ms round free = subst (Each (λ (m : VisitRecord). m.turn.posted ≡ [])) (sym round.0) tt
 round_posts_nothing g level c (suc n) i x y ms round free =
     ⊎_elim
     (λ (done : IsFinished g i (x.at i) × Round g level c n (suc i) x ms y). round_posts_nothing g level c n (suc i) x y ms done.1 (λ j le lt. free j (omega (arith, le)) (omega (arith, lt))))
-    (λ (one : (IsFinished g i (x.at i) → ⊥) × (m : Made) × (rest : List Made) × (mid : Together) × (ms ≡ m ∷ rest) × (m.platform ≡ i) × Makes g level c x m mid × Round g level c n (suc i) mid rest y).
-    subst (Each (λ (m : Made). m.turn.posted ≡ [])) (sym one.4) (
+    (λ (one : (IsFinished g i (x.at i) → ⊥) × (m : VisitRecord) × (rest : List VisitRecord) × (mid : RunState) × (ms ≡ m ∷ rest) × (m.platform ≡ i) × Makes g level c x m mid × Round g level c n (suc i) mid rest y).
+    subst (Each (λ (m : VisitRecord). m.turn.posted ≡ [])) (sym one.4) (
       nothing_posted g one.1.turn.posted (x.at one.1.platform) one.6.is.posted (λ u. free one.1.platform (not_before one.1.platform i one.5) (is_first i one.1.platform n one.5) u) one.6.is.posts,
       round_posts_nothing g level c n (suc i) one.3 y one.2 one.7 (λ j le lt u.
           ap (λ (s : State). s.busy u) (one.6.others j (λ e. is_above j i one.1.platform le e one.5)).0
@@ -60,25 +60,25 @@ round_posts_nothing g level c (suc n) i x y ms round free =
     round
 
 module _ (g : Graph) (level : ℕ → ℕ) (rows : ℕ → List Row) (offset : Unit → Option ℤ) (wired : IsWired g) (are : AreLevels g level) (fits : FitRows g rows) (feasible : IsFeasible g) (has : (u : Unit) → HasOffset g u (offset u)) (c : ℕ) where
-  pub round_falls : (n i : ℕ) (x y : Together) (ms : List Made) → n + i ≤ length g.platforms → Onward g level rows offset c x → Round g level c n i x ms y → Falls (IsStillRound x.at ms y.at) (all_to_do g x.at x.did) (all_to_do g y.at y.did)
+  pub round_falls : (n i : ℕ) (x y : RunState) (ms : List VisitRecord) → n + i ≤ length g.platforms → Onward g level rows offset c x → Round g level c n i x ms y → Falls (IsStillRound x.at ms y.at) (all_to_do g x.at x.did) (all_to_do g y.at y.did)
   round_falls zero i x y ms le h (none, same) =
       subst (λ z. Falls (IsStillRound x.at ms z.at) (all_to_do g x.at x.did) (all_to_do g z.at z.did)) (sym same)
-      (omega arith, inl (record { turns = subst (Each (λ (m : Made). MovesNothing m.turn)) (sym none) tt; closed = λ j. refl }))
+      (omega arith, inl (record { turns = subst (Each (λ (m : VisitRecord). MovesNothing m.turn)) (sym none) tt; closed = λ j. refl }))
   round_falls (suc n) i x y ms le h round =
       ⊎_elim
       (λ (done : IsFinished g i (x.at i) × Round g level c n (suc i) x ms y). round_falls n (suc i) x y ms (omega (arith, le)) h done.1)
-      (λ (one : (IsFinished g i (x.at i) → ⊥) × (m : Made) × (rest : List Made) × (mid : Together) × (ms ≡ m ∷ rest) × (m.platform ≡ i) × Makes g level c x m mid × Round g level c n (suc i) mid rest y).
+      (λ (one : (IsFinished g i (x.at i) → ⊥) × (m : VisitRecord) × (rest : List VisitRecord) × (mid : RunState) × (ms ≡ m ∷ rest) × (m.platform ≡ i) × Makes g level c x m mid × Round g level c n (suc i) mid rest y).
       let lt : one.1.platform < length g.platforms = subst (λ j. j < length g.platforms) (sym one.5) (omega (arith, le)) in
       then_falls (IsStill (x.at one.1.platform) one.1.turn (one.3.at one.1.platform)) (IsStillRound one.3.at one.2 y.at) (IsStillRound x.at ms y.at) (all_to_do g x.at x.did) (all_to_do g one.3.at one.3.did) (all_to_do g y.at y.did)
       (λ still rest. record {
-        turns = subst (Each (λ (m : Made). MovesNothing m.turn)) (sym one.4) (still.nothing, rest.turns);
+        turns = subst (Each (λ (m : VisitRecord). MovesNothing m.turn)) (sym one.4) (still.nothing, rest.turns);
         closed = λ j. rest.closed j ∙ stays x one.3 one.1 one.6 still.closed j;
       })
       (visit_falls g level rows offset wired are fits feasible has c x one.3 one.1 h one.6 lt)
       (round_falls n (suc i) one.3 y one.2 (omega (arith, le)) (makes_onward g level rows offset has wired feasible c x one.3 one.1 lt h one.6).1 one.7))
       round
     where
-      stays : (x mid : Together) (m : Made) → Makes g level c x m mid → (mid.at m.platform).closed ≡ (x.at m.platform).closed → (j : ℕ) → (mid.at j).closed ≡ (x.at j).closed
+      stays : (x mid : RunState) (m : VisitRecord) → Makes g level c x m mid → (mid.at m.platform).closed ≡ (x.at m.platform).closed → (j : ℕ) → (mid.at j).closed ≡ (x.at j).closed
       stays x mid m k here j =
           ⊎_elim
           (λ (e : j ≡ m.platform). subst (λ i. (mid.at i).closed ≡ (x.at i).closed) (sym e) here)
@@ -86,10 +86,10 @@ module _ (g : Graph) (level : ℕ → ℕ) (rows : ℕ → List Row) (offset : U
           (cases_same j m.platform)
 
   -- a finished platform has nothing open
-  finished_free : (i : ℕ) (x : Together) → i < length g.platforms → Onward g level rows offset c x → IsFinished g i (x.at i) → (u : Unit) → (x.at i).busy u ≡ None
+  finished_free : (i : ℕ) (x : RunState) → i < length g.platforms → Onward g level rows offset c x → IsFinished g i (x.at i) → (u : Unit) → (x.at i).busy u ≡ None
   finished_free i x lt h done = ((whole_of g level rows offset wired are fits feasible has c x i lt h).keeps.is_shut done.closed).busy
 
-  pub round_frees : (n i : ℕ) (x y : Together) (ms : List Made) → n + i ≤ length g.platforms → Onward g level rows offset c x → Round g level c n i x ms y → Each (λ (m : Made). MovesNothing m.turn) ms → IsFree y.at n i
+  pub round_frees : (n i : ℕ) (x y : RunState) (ms : List VisitRecord) → n + i ≤ length g.platforms → Onward g level rows offset c x → Round g level c n i x ms y → Each (λ (m : VisitRecord). MovesNothing m.turn) ms → IsFree y.at n i
   round_frees zero i x y ms le h round still j from below u = absurd (none_left i j from below)
   round_frees (suc n) i x y ms le h round still j from below u =
       ⊎_elim
@@ -100,9 +100,9 @@ module _ (g : Graph) (level : ℕ → ℕ) (rows : ℕ → List Row) (offset : U
       (ap (λ (s : State). s.busy u) (round_leaves g level c n (suc i) x y ms done.1 i (omega arith)) ∙ finished_free i x (omega (arith, le)) h done.0 u))
       (λ (there : j ≢ i). round_frees n (suc i) x y ms (omega (arith, le)) h done.1 still j (is_later i j from there) (one_fewer n i j below) u)
       (cases_same j i))
-      (λ (one : (IsFinished g i (x.at i) → ⊥) × (m : Made) × (rest : List Made) × (mid : Together) × (ms ≡ m ∷ rest) × (m.platform ≡ i) × Makes g level c x m mid × Round g level c n (suc i) mid rest y).
+      (λ (one : (IsFinished g i (x.at i) → ⊥) × (m : VisitRecord) × (rest : List VisitRecord) × (mid : RunState) × (ms ≡ m ∷ rest) × (m.platform ≡ i) × Makes g level c x m mid × Round g level c n (suc i) mid rest y).
       let lt : one.1.platform < length g.platforms = subst (λ k. k < length g.platforms) (sym one.5) (omega (arith, le)) in
-      let moves : Each (λ (m : Made). MovesNothing m.turn) (one.1 ∷ one.2) = subst (Each (λ (m : Made). MovesNothing m.turn)) one.4 still in
+      let moves : Each (λ (m : VisitRecord). MovesNothing m.turn) (one.1 ∷ one.2) = subst (Each (λ (m : VisitRecord). MovesNothing m.turn)) one.4 still in
       ⊎_elim
       (λ (here : j ≡ i).
       subst (λ k. (y.at k).busy u ≡ None) (one.5 ∙ sym here)
@@ -112,5 +112,5 @@ module _ (g : Graph) (level : ℕ → ℕ) (rows : ℕ → List Row) (offset : U
       round
 
 -- a round without a move that posts nothing is quiet
-pub quiet_still : (x y : Together) (ms : List Made) → IsStillRound x.at ms y.at → Each (λ (m : Made). m.turn.posted ≡ []) ms → IsQuietRound x ms y
+pub quiet_still : (x y : RunState) (ms : List VisitRecord) → IsStillRound x.at ms y.at → Each (λ (m : VisitRecord). m.turn.posted ≡ []) ms → IsQuietRound x ms y
 quiet_still x y ms still none = record { quiet = quiet_turns ms still.turns none; closed = still.closed }

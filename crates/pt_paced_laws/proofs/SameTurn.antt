@@ -22,7 +22,7 @@ use Rattle.pt_semantics.specs.Taking.{Takes, after_message, with_taken, IsOnTime
 use Rattle.pt_semantics.specs.Claiming.{Claims, IsNext, NoLater, after_claim}
 use Rattle.pt_semantics.specs.Closing.{Closes, CanClose, shut, on_link, unsent}
 use Rattle.pt_semantics.specs.Turn.{Turn, IsLast}
-use Rattle.pt_semantics.specs.Visits.{Together, Made, IsVisit, NumbersRise}
+use Rattle.pt_semantics.specs.Visits.{RunState, VisitRecord, IsVisit, NumbersRise}
 use Rattle.pt_semantics.proofs.Lookups.{none_some, cases_part, IsIn-append_right}
 use Rattle.pt_semantics.proofs.Floor.{put_none_found, put_other}
 use Rattle.pt_laws.proofs.Onward.{cases_same}
@@ -242,7 +242,7 @@ at_zero g r most tasks z h =
     h
 
 -- two visits
-module _ (g : Graph) (level : ℕ → ℕ) (most : ℕ) (room : ℕ → ℕ) (r : ℕ) (x : Together) (m n : Made) (y z : Together) (k : IsVisit g level most room r x m y) (j : IsVisit g level most room r x n z) (platform : m.platform ≡ n.platform) where
+module _ (g : Graph) (level : ℕ → ℕ) (most : ℕ) (room : ℕ → ℕ) (r : ℕ) (x : RunState) (m n : VisitRecord) (y z : RunState) (k : IsVisit g level most room r x m y) (j : IsVisit g level most room r x n z) (platform : m.platform ≡ n.platform) where
   last : m.turn.last ≡ n.turn.last
   last = k.last ∙ sym j.last
 

@@ -15,7 +15,7 @@ use Rattle.pt_semantics.specs.Offsets.{HasOffset, IsFeasible}
 use Rattle.pt_semantics.specs.Ranks.{AreLevels}
 use Rattle.pt_semantics.specs.Rows.{FitRows}
 use Rattle.pt_semantics.specs.Rounds.{Makes}
-use Rattle.pt_semantics.specs.Visits.{Made, Together}
+use Rattle.pt_semantics.specs.Visits.{VisitRecord, RunState}
 use Rattle.pt_semantics.specs.Wired.{IsWired}
 use Rattle.pt_semantics.proofs.Lookups.{Each-from, IsIn-append_left, none_some, same_some}
 use Rattle.pt_laws.proofs.Onward.{Onward, cases_same, makes_onward}
@@ -27,7 +27,7 @@ use Rattle.pt_paced_laws.proofs.SameTurn.{takes_member}
 
 module _ (g : Graph) (level : ℕ → ℕ) (rows : ℕ → List Row) (offset : Unit → Option ℤ) (wired : IsWired g) (are : AreLevels g level) (fits : FitRows g rows) (feasible : IsFeasible g) (has : (u : Unit) → HasOffset g u (offset u)) where
   -- what a platform sends is on its own links
-  sent_on : (c : ℕ) (x y : Together) (m : Made) → Onward g level rows offset c x → Makes g level c x m y → m.platform < length g.platforms → (o : OnLink) → IsIn o m.turn.sent →
+  sent_on : (c : ℕ) (x y : RunState) (m : VisitRecord) → Onward g level rows offset c x → Makes g level c x m y → m.platform < length g.platforms → (o : OnLink) → IsIn o m.turn.sent →
       (link : Link) × (slice_get g.links o.link ≡ Some link) × (platform_of g link.from ≡ m.platform)
   sent_on c x y m h k lt o mem = by_link (slice_get g.links o.link) refl
     where
@@ -51,7 +51,7 @@ module _ (g : Graph) (level : ℕ → ℕ) (rows : ℕ → List Row) (offset : U
           (λ (away : platform_of g link.from ≢ m.platform). absurd (never (λ other at home. away (ap (λ (z : Link). platform_of g z.from) (same_some link other (sym e ∙ at)) ∙ home))))
           (cases_same (platform_of g link.from) m.platform)
 
-  pub visit_falls : (c : ℕ) (x y : Together) (m : Made) → Onward g level rows offset c x → Makes g level c x m y → m.platform < length g.platforms →
+  pub visit_falls : (c : ℕ) (x y : RunState) (m : VisitRecord) → Onward g level rows offset c x → Makes g level c x m y → m.platform < length g.platforms →
       Falls (IsStill (x.at m.platform) m.turn (y.at m.platform)) (all_to_do g x.at x.did) (all_to_do g y.at y.did)
   visit_falls c x y m h k lt =
       one_falls (IsStill (x.at m.platform) m.turn (y.at m.platform)) (λ i. to_do g (x.at i) (x.did i)) (λ i. to_do g (y.at i) (y.did i)) (length g.platforms) m.platform lt

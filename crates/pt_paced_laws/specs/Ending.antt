@@ -8,7 +8,7 @@ use Rattle.pt_semantics.specs.Offsets.{HasOffset, IsFeasible}
 use Rattle.pt_semantics.specs.Ranks.{AreLevels}
 use Rattle.pt_semantics.specs.Rounds.{IsPacedRun}
 use Rattle.pt_semantics.specs.Rows.{FitRows}
-use Rattle.pt_semantics.specs.Visits.{Made, Together}
+use Rattle.pt_semantics.specs.Visits.{VisitRecord, RunState}
 use Rattle.pt_semantics.specs.Wired.{IsWired}
 
 -- the moves of a platform, at most: the graph's number of claims, one closing, each row once, and on each link as many messages
@@ -23,5 +23,5 @@ most_rounds g rows = 3 * (length g.platforms * most_moves g rows) + 2
 
 -- a paced run has no more rounds than that
 abbrev pub RoundsEnd : Type 0
-RoundsEnd = (g : Graph) (level : ℕ → ℕ) (rows : ℕ → List Row) (offset : Unit → Option ℤ) (rounds : List (List Made)) (c : ℕ) (x : Together) →
+RoundsEnd = (g : Graph) (level : ℕ → ℕ) (rows : ℕ → List Row) (offset : Unit → Option ℤ) (rounds : List (List VisitRecord)) (c : ℕ) (x : RunState) →
     IsWired g → AreLevels g level → FitRows g rows → IsFeasible g → ((u : Unit) → HasOffset g u (offset u)) → IsPacedRun g level rows rounds c x → length rounds ≤ most_rounds g rows

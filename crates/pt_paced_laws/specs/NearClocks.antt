@@ -9,7 +9,7 @@ use Rattle.pt_semantics.specs.Meaning.{ActorFiring, IsMeaning}
 use Rattle.pt_semantics.specs.Parts.{parts}
 use Rattle.pt_semantics.specs.Platform.{opened}
 use Rattle.pt_semantics.specs.Ranks.{AreRanks}
-use Rattle.pt_semantics.specs.Visits.{AreFinished, Together}
+use Rattle.pt_semantics.specs.Visits.{AreFinished, RunState}
 use Rattle.pt_paced_laws.specs.Schedule.{AreAllClaimed, AreClaimedAsMeant, AreMissedAsMeant, IsOnSchedule, SendsWithinSlack}
 use Rattle.pt_paced_laws.specs.WholeRuns.{kept_by}
 
@@ -18,7 +18,7 @@ abbrev pub OfMeaning : Graph → (ℕ → List Row) → (List ActorFiring → Ty
 OfMeaning g rows Fact = (rank : ℕ → ℕ) (xs : List ActorFiring) → AreRanks g rank → IsMeaning g rank rows xs → Fact xs
 
 -- the histories of these platforms keep the paced schedule, and do what the meaning does
-pub record KeepsPace (g : Graph) (level : ℕ → ℕ) (rows : ℕ → List Row) (y : Together) : Type 0 where
+pub record KeepsPace (g : Graph) (level : ℕ → ℕ) (rows : ℕ → List Row) (y : RunState) : Type 0 where
   -- no turn took a late message, each claim is made at exactly its paced reading, and no message is sent past its sender's slack
   pub none_late : (i : ℕ) → i < length g.platforms → LegalOnTime g level i (opened g i rows) (kept_by y i) (y.at i)
   pub on_schedule : (i : ℕ) → i < length g.platforms → Each (IsOnSchedule g) (kept_by y i)

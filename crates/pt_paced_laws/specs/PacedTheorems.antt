@@ -15,7 +15,7 @@ use Rattle.pt_semantics.specs.Rows.{FitRows}
 use Rattle.pt_semantics.specs.Offsets.{HasOffset, IsFeasible}
 use Rattle.pt_semantics.specs.Linked.{IsFinished, all_claims, AreMatched, AreLinked}
 use Rattle.pt_semantics.specs.Rounds.{IsLeastNext, IsPacedRun, IsQuietRound, IsRunInRound, IsTimely, Round, ArePaced, IsWholeRun}
-use Rattle.pt_semantics.specs.Visits.{Made, Together, AreFinished}
+use Rattle.pt_semantics.specs.Visits.{VisitRecord, RunState, AreFinished}
 use Rattle.pt_semantics.specs.Missed.{IsMissed}
 use Rattle.pt_semantics.specs.Paced.{paced_by}
 use Rattle.pt_semantics.specs.Wired.{IsWired}
@@ -29,13 +29,13 @@ use Rattle.pt_semantics.specs.Kept.{kept}
 
 -- no message is late in a paced run
 abbrev pub NoneLate : Type 0
-NoneLate = (g : Graph) (level : ℕ → ℕ) (rows : ℕ → List Row) (offset : Unit → Option ℤ) (rounds : List (List Made)) (c n : ℕ) (ms : List Made) (y : Together) →
+NoneLate = (g : Graph) (level : ℕ → ℕ) (rows : ℕ → List Row) (offset : Unit → Option ℤ) (rounds : List (List VisitRecord)) (c n : ℕ) (ms : List VisitRecord) (y : RunState) →
     IsWired g → AreLevels g level → FitRows g rows → IsFeasible g → ((u : Unit) → HasOffset g u (offset u)) → IsRunInRound g level rows rounds c n ms y →
-    Each (λ (m : Made). m.late ≡ false) ms × ((i : ℕ) → i < length g.platforms → LegalOnTime g level i (opened g i rows) (y.did i) (y.at i))
+    Each (λ (m : VisitRecord). m.late ≡ false) ms × ((i : ℕ) → i < length g.platforms → LegalOnTime g level i (opened g i rows) (y.did i) (y.at i))
 
 -- in a paced run each turn claims and posts at paced readings alone, and sends no message too late
 abbrev pub TimelyWhenPaced : Type 0
-TimelyWhenPaced = (g : Graph) (level : ℕ → ℕ) (rows : ℕ → List Row) (offset : Unit → Option ℤ) (rounds : List (List Made)) (c n : ℕ) (ms : List Made) (y : Together) →
+TimelyWhenPaced = (g : Graph) (level : ℕ → ℕ) (rows : ℕ → List Row) (offset : Unit → Option ℤ) (rounds : List (List VisitRecord)) (c n : ℕ) (ms : List VisitRecord) (y : RunState) →
     IsWired g → AreLevels g level → FitRows g rows → IsFeasible g → ((u : Unit) → HasOffset g u (offset u)) → IsRunInRound g level rows rounds c n ms y →
     (i : ℕ) → i < length g.platforms → Each (IsTimely g offset) (y.did i)
 
@@ -47,37 +47,37 @@ MissedWhenPaced = (g : Graph) (offset : Unit → Option ℤ) (turn : Turn) (a : 
 -- at any time in a paced run the claims of each unit are the first
 -- of its parts of the meaning, and all if all platforms are finished
 abbrev pub PacedIsPrefix : Type 0
-PacedIsPrefix = (g : Graph) (level rank : ℕ → ℕ) (rows : ℕ → List Row) (offset : Unit → Option ℤ) (rounds : List (List Made)) (c n : ℕ) (ms : List Made) (y : Together) (xs : List ActorFiring) →
+PacedIsPrefix = (g : Graph) (level rank : ℕ → ℕ) (rows : ℕ → List Row) (offset : Unit → Option ℤ) (rounds : List (List VisitRecord)) (c n : ℕ) (ms : List VisitRecord) (y : RunState) (xs : List ActorFiring) →
     IsWired g → AreLevels g level → AreRanks g rank → FitRows g rows → IsFeasible g → ((u : Unit) → HasOffset g u (offset u)) → IsRunInRound g level rows rounds c n ms y → IsMeaning g rank rows xs →
     (u : Unit) → ((rest : List Firing) × (parts g xs u ≡ all_claims g y.did u ++ rest)) × (((i : ℕ) → i < length g.platforms → IsFinished g i (y.at i)) → all_claims g y.did u ≡ parts g xs u)
 
 -- in a paced run that is finished the missed entries are the meaning's
 -- actuator firings whose paced reading is past the tag's time and the slack
 abbrev pub MissedIsInMeaning : Type 0
-MissedIsInMeaning = (g : Graph) (level rank : ℕ → ℕ) (rows : ℕ → List Row) (offset : Unit → Option ℤ) (rounds : List (List Made)) (c n : ℕ) (ms : List Made) (y : Together) (xs : List ActorFiring) →
+MissedIsInMeaning = (g : Graph) (level rank : ℕ → ℕ) (rows : ℕ → List Row) (offset : Unit → Option ℤ) (rounds : List (List VisitRecord)) (c n : ℕ) (ms : List VisitRecord) (y : RunState) (xs : List ActorFiring) →
     IsWired g → AreLevels g level → AreRanks g rank → FitRows g rows → IsFeasible g → ((u : Unit) → HasOffset g u (offset u)) → IsRunInRound g level rows rounds c n ms y → ((i : ℕ) → i < length g.platforms → IsFinished g i (y.at i)) → IsMeaning g rank rows xs →
     ((i a limit : ℕ) (t : Tag) (turn : Turn) → i < length g.platforms → IsIn turn (y.did i) → IsMissed g turn a t limit → (z : ActorFiring) × IsIn z xs × (z.actor ≡ a) × (z.tag ≡ t) × ((slack : ℕ) × (kind_of g a ≡ Actuator slack) × (t.time + slack < paced_by (offset (at_input g a 0)) t)))
     × ((z : ActorFiring) (slack : ℕ) → IsIn z xs → kind_of g z.actor ≡ Actuator slack → z.tag.time + slack < paced_by (offset (at_input g z.actor 0)) z.tag → (turn : Turn) × IsIn turn (y.did (platform_of g z.actor)) × IsMissed g turn z.actor z.tag (z.tag.time + slack))
 
 -- no two quiet rounds without a fault follow one another
 abbrev pub NoTwoQuiet : Type 0
-NoTwoQuiet = (g : Graph) (level : ℕ → ℕ) (rows : ℕ → List Row) (offset : Unit → Option ℤ) (rounds : List (List Made)) (c b : ℕ) (ms ns : List Made) (x y z : Together) →
+NoTwoQuiet = (g : Graph) (level : ℕ → ℕ) (rows : ℕ → List Row) (offset : Unit → Option ℤ) (rounds : List (List VisitRecord)) (c b : ℕ) (ms ns : List VisitRecord) (x y z : RunState) →
     IsWired g → AreLevels g level → FitRows g rows → IsFeasible g → ((u : Unit) → HasOffset g u (offset u)) → IsPacedRun g level rows rounds c x →
-    Round g level c (length g.platforms) 0 x ms y → Each (λ (m : Made). m.fault ≡ false) ms → IsQuietRound x ms y → IsLeastNext g y b →
-    Round g level b (length g.platforms) 0 y ns z → Each (λ (m : Made). m.fault ≡ false) ns → IsQuietRound y ns z → ⊥
+    Round g level c (length g.platforms) 0 x ms y → Each (λ (m : VisitRecord). m.fault ≡ false) ms → IsQuietRound x ms y → IsLeastNext g y b →
+    Round g level b (length g.platforms) 0 y ns z → Each (λ (m : VisitRecord). m.fault ≡ false) ns → IsQuietRound y ns z → ⊥
 
 -- after a quiet round in which all platforms are closed all are finished
 abbrev pub QuietEnds : Type 0
-QuietEnds = (g : Graph) (level : ℕ → ℕ) (rows : ℕ → List Row) (offset : Unit → Option ℤ) (rounds : List (List Made)) (c : ℕ) (ms : List Made) (x y : Together) →
+QuietEnds = (g : Graph) (level : ℕ → ℕ) (rows : ℕ → List Row) (offset : Unit → Option ℤ) (rounds : List (List VisitRecord)) (c : ℕ) (ms : List VisitRecord) (x y : RunState) →
     IsWired g → AreLevels g level → FitRows g rows → IsFeasible g → ((u : Unit) → HasOffset g u (offset u)) → IsPacedRun g level rows rounds c x →
-    Round g level c (length g.platforms) 0 x ms y → Each (λ (m : Made). m.fault ≡ false) ms → IsQuietRound x ms y → ((i : ℕ) → i < length g.platforms → (y.at i).closed ≡ true) → (i : ℕ) → i < length g.platforms → IsFinished g i (y.at i)
+    Round g level c (length g.platforms) 0 x ms y → Each (λ (m : VisitRecord). m.fault ≡ false) ms → IsQuietRound x ms y → ((i : ℕ) → i < length g.platforms → (y.at i).closed ≡ true) → (i : ℕ) → i < length g.platforms → IsFinished g i (y.at i)
 
 -- in a paced run a platform with a fault has more unit firings
 -- in the meaning than it may claim; if all platforms are finished no platform has
 abbrev pub LongExactly : Type 0
-LongExactly = (g : Graph) (level rank : ℕ → ℕ) (rows : ℕ → List Row) (offset : Unit → Option ℤ) (rounds : List (List Made)) (c n : ℕ) (ms : List Made) (y : Together) (xs : List ActorFiring) →
+LongExactly = (g : Graph) (level rank : ℕ → ℕ) (rows : ℕ → List Row) (offset : Unit → Option ℤ) (rounds : List (List VisitRecord)) (c n : ℕ) (ms : List VisitRecord) (y : RunState) (xs : List ActorFiring) →
     IsWired g → AreLevels g level → AreRanks g rank → FitRows g rows → IsFeasible g → ((u : Unit) → HasOffset g u (offset u)) → IsRunInRound g level rows rounds c n ms y → IsMeaning g rank rows xs →
-    Each (λ (m : Made). m.fault ≡ true → g.claims < unit_firings g m.platform (parts g xs)) ms
+    Each (λ (m : VisitRecord). m.fault ≡ true → g.claims < unit_firings g m.platform (parts g xs)) ms
     × (AreFinished g y → (i : ℕ) → i < length g.platforms → unit_firings g i (parts g xs) ≤ g.claims)
 
 -- the histories of the paced rounds depend on the program and its rows alone
@@ -88,7 +88,7 @@ PacedIsOne = (g : Graph) (level : ℕ → ℕ) (rows : ℕ → List Row) (offset
 
 -- as they are recorded, the histories of a whole paced run are legal and matched, and linked if all platforms are finished
 abbrev pub PacedAreLegal : Type 0
-PacedAreLegal = (g : Graph) (level : ℕ → ℕ) (rows : ℕ → List Row) (offset : Unit → Option ℤ) (y : Together) →
+PacedAreLegal = (g : Graph) (level : ℕ → ℕ) (rows : ℕ → List Row) (offset : Unit → Option ℤ) (y : RunState) →
     IsWired g → AreLevels g level → FitRows g rows → IsFeasible g → ((u : Unit) → HasOffset g u (offset u)) → IsWholeRun g level rows y →
     ((i : ℕ) → i < length g.platforms → IsLegal g level i rows (kept (y.did i)) (y.at i))
     × AreMatched g (λ i. kept (y.did i)) × (AreFinished g y → AreLinked g (λ i. kept (y.did i)))

@@ -44,13 +44,17 @@ pub fn status<S: Source, K: Sink, E: Sink, C: Clock + Send, R: Threads + Wait + 
 ) -> u8
     requires clocks { length clocks.items ≡ 16 }
     // It is the status of a fault, or of none, with which the command may end so.
-    ensures ended { (fault : Option Fault) × (left : Leaves) × (result ≡ status_of fault left.misses)
+    ensures ended { (fault : Option Fault) × (left : Leaves)
+        × (result ≡ status_of fault left.misses)
         × IsDue (order_of words.now) (S.contents source.old) blocks.now.listed.items
-        (as_answer fault left (reading S.Source source.old source.new) (writing K.Sink out.old out.new)) }
-    ensures complete { IsComplete result (order_of words.now) (S.contents source.old) blocks.now.listed.items
+        (as_answer fault left (reading S.Source source.old source.new)
+        (writing K.Sink out.old out.new)) }
+    ensures complete { IsComplete result (order_of words.now)
+        (S.contents source.old) blocks.now.listed.items
         (reading S.Source source.old source.new)
         (writing K.Sink out.old out.new) }
-    ensures complete_in_bounds { IsCompleteInBounds result (order_of words.now) (S.contents source.old) blocks.now.listed.items
+    ensures complete_in_bounds { IsCompleteInBounds result (order_of words.now)
+        (S.contents source.old) blocks.now.listed.items
         (reading S.Source source.old source.new)
         (writing K.Sink out.old out.new) }
 {

@@ -7,7 +7,7 @@ use Rattle.pt_types.specs.Lookups.{platform_of}
 use Rattle.pt_semantics.specs.Lists.{IsIn}
 use Rattle.pt_semantics.specs.Paced.{IsCandidate}
 use Rattle.pt_semantics.specs.Platform.{State}
-use Rattle.pt_semantics.specs.Visits.{Together}
+use Rattle.pt_semantics.specs.Visits.{RunState}
 use Rattle.pt_semantics.specs.Wired.{IsWired}
 use Rattle.pt_offsets.specs.Plans.{Parts}
 use Rattle.pt_types.specs.declared.air.Air.{Air}
@@ -24,7 +24,7 @@ use Rattle.pt_engine.proofs.Views.{all_finished, each_finished, from_view, to_vi
 use Rattle.pt_replay.specs.Shown.{AreShownInReplay}
 
 -- the platforms alone
-abbrev pub platforms_in : ReplayState → Together
+abbrev pub platforms_in : ReplayState → RunState
 platforms_in x = record { at = x.at; did = x.did; on_way = λ l. [] }
 
 module _ (plan : Parts) (rows : ℕ → List Row) (air : Air) (x : ReplayState) (platforms : List PlatformView) (airways : List AirwayView) (results : List (List Done)) (shown : AreShownInReplay plan rows x platforms airways results) where

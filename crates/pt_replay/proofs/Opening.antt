@@ -7,7 +7,7 @@ use Rattle.pt_types.specs.declared.rows.Row.{Row}
 use Rattle.pt_types.specs.declared.graph.Graph.{Graph}
 use Rattle.pt_types.specs.Lookups.{platform_of}
 use Rattle.pt_semantics.specs.Lists.{Each}
-use Rattle.pt_semantics.specs.Visits.{together_at_start}
+use Rattle.pt_semantics.specs.Visits.{run_at_start}
 use Rattle.pt_semantics.specs.Wired.{IsWired}
 use Rattle.pt_semantics.proofs.LawfulEdges.{wired}
 use Rattle.pt_semantics.proofs.Lookups.{none_some, same_some}
@@ -60,7 +60,7 @@ module _ (plan : Parts) (rows : ℕ → List Row) (air : Air) (platforms : List 
   pub empty : PipesAreEmpty plan.graph pipes
   empty = (ap length no_message ∙ length-replicate links [] ∙ links_are, subst (Each (λ (pipe : List Message). pipe ≡ [])) (sym no_message) (all_empty links))
 
-  shown : AreShown plan rows (together_at_start plan.graph rows) platforms pipes results
+  shown : AreShown plan rows (run_at_start plan.graph rows) platforms pipes results
   shown = shown_first plan rows platforms pipes results new
 
   shown_at_start : AreShownInReplay plan rows (replay_at_start plan.graph rows) platforms airways results

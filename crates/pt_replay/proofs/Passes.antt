@@ -10,7 +10,7 @@ use Rattle.pt_semantics.specs.Linked.{IsFinished, all_sent, all_taken}
 use Rattle.pt_semantics.specs.Lists.{Each, IsIn}
 use Rattle.pt_semantics.specs.Platform.{State}
 use Rattle.pt_semantics.specs.Turn.{is_quiet}
-use Rattle.pt_semantics.specs.Visits.{Made}
+use Rattle.pt_semantics.specs.Visits.{VisitRecord}
 use Rattle.pt_semantics.proofs.LawfulEdges.{wired}
 use Rattle.pt_semantics.proofs.Lookups.{Each-append, IsIn-append, IsIn-append_left, IsIn-append_right}
 use Rattle.pt_laws.proofs.Onward.{cases_same}
@@ -156,7 +156,7 @@ module _ (plan : Parts) (rows : ℕ → List Row) (air : Air) (count now : ℕ) 
             let so = was.still_is.0 (if_quiet e).1 in
             let before = h.is_quiet_round (if_quiet e).0 in
             record {
-              quiet = Each-append (λ (m : Made). is_quiet m.turn ≡ true) h.made (shows.made ∷ []) before.quiet (ap is_quiet shows.turn_is ∙ so.0, tt);
+              quiet = Each-append (λ (m : VisitRecord). is_quiet m.turn ≡ true) h.made (shows.made ∷ []) before.quiet (ap is_quiet shows.turn_is ∙ so.0, tt);
               closed = closed_still s.state.at h.state.at shows.state.at h.made shows.made n v.closed w.closed closed_before closes_here stays so.1 before.closed;
             }
 
@@ -195,20 +195,20 @@ module _ (plan : Parts) (rows : ℕ → List Row) (air : Air) (count now : ℕ) 
             (h.faults j u (is_old platforms n v w there j u other at)))
             (cases_same j n)
 
-        fine_now : HaveNoFault (set platforms n w) → Each (λ (m : Made). m.fault ≡ false) (h.made ++ shows.made ∷ [])
+        fine_now : HaveNoFault (set platforms n w) → Each (λ (m : VisitRecord). m.fault ≡ false) (h.made ++ shows.made ∷ [])
         fine_now none =
-            Each-append (λ (m : Made). m.fault ≡ false) h.made (shows.made ∷ [])
+            Each-append (λ (m : VisitRecord). m.fault ≡ false) h.made (shows.made ∷ [])
             (h.fine (no_fault_before platforms n v w there not_faulty none))
             (shows.fault ∙ ap is_fault (none n w changed), tt)
 
         -- a platform that is visited was not visited before in this round
-        none_before : (m : Made) → IsIn m h.made → m.platform ≡ n → ⊥
+        none_before : (m : VisitRecord) → IsIn m h.made → m.platform ≡ n → ⊥
         none_before m mem home = past m.platform n (visited_below plan.graph (level_of plan.ranks) air now n 0 s.state h.state h.made h.round m mem) home
           where
             past : (j k : ℕ) → j < k + 0 → j ≡ k → ⊥
             past j k lt e = omega arith
 
-        answered_now : (j : ℕ) (u : PlatformView) → slice_get (set platforms n w) j ≡ Some u → (m : Made) → IsIn m (h.made ++ shows.made ∷ []) → m.platform ≡ j → (m.fault ≡ is_fault u.fault) × (m.late ≡ is_late u.fault)
+        answered_now : (j : ℕ) (u : PlatformView) → slice_get (set platforms n w) j ≡ Some u → (m : VisitRecord) → IsIn m (h.made ++ shows.made ∷ []) → m.platform ≡ j → (m.fault ≡ is_fault u.fault) × (m.late ≡ is_late u.fault)
         answered_now j u at m mem home =
             ⊎_elim
             (λ (old : IsIn m h.made).
@@ -219,9 +219,9 @@ module _ (plan : Parts) (rows : ℕ → List Row) (air : Air) (count now : ℕ) 
             (λ (new : IsIn m (shows.made ∷ [])).
             ⊎_elim
             (λ (e : m ≡ shows.made).
-            let here : j ≡ n = sym home ∙ ap (λ (z : Made). z.platform) e ∙ shows.platform in
+            let here : j ≡ n = sym home ∙ ap (λ (z : VisitRecord). z.platform) e ∙ shows.platform in
             let same : w ≡ u = sym (is_new platforms n v w there j u here at) in
-            (ap (λ (z : Made). z.fault) e ∙ shows.fault ∙ ap (λ (z : PlatformView). is_fault z.fault) same, ap (λ (z : Made). z.late) e ∙ shows.late ∙ ap (λ (z : PlatformView). is_late z.fault) same))
+            (ap (λ (z : VisitRecord). z.fault) e ∙ shows.fault ∙ ap (λ (z : PlatformView). is_fault z.fault) same, ap (λ (z : VisitRecord). z.late) e ∙ shows.late ∙ ap (λ (z : PlatformView). is_late z.fault) same))
             (λ (never : ⊥). absurd never)
             new)
             (IsIn-append m h.made (shows.made ∷ []) mem)

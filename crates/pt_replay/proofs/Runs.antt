@@ -10,7 +10,7 @@ use Rattle.pt_semantics.specs.Kept.{kept}
 use Rattle.pt_semantics.specs.Linked.{AreLinked, AreMatched, all_sent, all_taken}
 use Rattle.pt_semantics.specs.Lists.{Each, IsIn}
 use Rattle.pt_semantics.specs.Turn.{Turn, is_quiet}
-use Rattle.pt_semantics.specs.Visits.{Made}
+use Rattle.pt_semantics.specs.Visits.{VisitRecord}
 use Rattle.pt_semantics.specs.Wired.{IsWired}
 use Rattle.pt_semantics.proofs.LawfulEdges.{wired}
 use Rattle.pt_semantics.proofs.Lookups.{Each-in, none_some}
@@ -55,7 +55,7 @@ module _ (plan : Parts) (rows : ℕ → List Row) (air : Air) (count now : ℕ) 
   turns_of p lt = history plan rows (platforms_in h.state) platforms there p lt
 
   -- where no turn in this round had a fault a platform has none
-  none_answered : (i : ℕ) (v : PlatformView) → slice_get platforms i ≡ Some v → ((m : Made) → IsIn m h.made → m.platform ≡ i → m.fault ≡ false) → v.fault ≡ None
+  none_answered : (i : ℕ) (v : PlatformView) → slice_get platforms i ≡ Some v → ((m : VisitRecord) → IsIn m h.made → m.platform ≡ i → m.fault ≡ false) → v.fault ≡ None
   none_answered i v at fine =
       ⊎_elim
       (λ (none : v.fault ≡ None). none)
@@ -63,7 +63,7 @@ module _ (plan : Parts) (rows : ℕ → List Row) (air : Air) (count now : ℕ) 
       (h.faults i v at)
 
   -- the end of a run, in what the platforms show
-  ended : AllFinished plan.graph h.state ⊎ (Each (λ (m : Made). m.fault ≡ false) h.made → ⊥) → (fault : Option (ℕ × TurnFault)) → EndsAt plan.graph platforms fault → (fault ≡ None → AllFinished plan.graph h.state) → IsOutcome plan (level_of plan.ranks) rows air platforms fault
+  ended : AllFinished plan.graph h.state ⊎ (Each (λ (m : VisitRecord). m.fault ≡ false) h.made → ⊥) → (fault : Option (ℕ × TurnFault)) → EndsAt plan.graph platforms fault → (fault ≡ None → AllFinished plan.graph h.state) → IsOutcome plan (level_of plan.ranks) rows air platforms fault
   ended ends fault so done = record {
     admitted = s.admitted;
     fit = s.fit;
@@ -109,7 +109,7 @@ module _ (plan : Parts) (rows : ℕ → List Row) (air : Air) (count now : ℕ) 
   pub ended_fault : (fault : ℕ × TurnFault) → IsFirstFault platforms fault → IsOutcome plan (level_of plan.ranks) rows air platforms (Some fault)
   ended_fault fault first =
       ended
-      (inr (λ fine. none_some fault.1 (sym (none_answered first.place first.view first.at (λ m mem home. Each-in (λ (m : Made). m.fault ≡ false) h.made fine m mem)) ∙ first.is)))
+      (inr (λ fine. none_some fault.1 (sym (none_answered first.place first.view first.at (λ m mem home. Each-in (λ (m : VisitRecord). m.fault ≡ false) h.made fine m mem)) ∙ first.is)))
       (Some fault) (ends_at_first plan rows platforms h.shown.all fault first)
       (λ e. absurd (none_some fault (sym e)))
 
@@ -122,7 +122,7 @@ module _ (plan : Parts) (rows : ℕ → List Row) (air : Air) (count now : ℕ) 
   moved : quiet ≡ false → IsQuiet s.state h.made h.state → ⊥
   moved noisy calm =
       ⊎_elim
-      (λ (one : (m : Made) × IsIn m h.made × (is_quiet m.turn ≡ false)). false≢true (sym one.2 ∙ Each-in (λ (m : Made). is_quiet m.turn ≡ true) h.made calm.quiet one.0 one.1))
+      (λ (one : (m : VisitRecord) × IsIn m h.made × (is_quiet m.turn ≡ false)). false≢true (sym one.2 ∙ Each-in (λ (m : VisitRecord). is_quiet m.turn ≡ true) h.made calm.quiet one.0 one.1))
       (λ (one : (j : ℕ) × (j < length olds) × ((h.state.at j).closed ≡ (s.state.at j).closed → ⊥)). one.2 (calm.closed one.0))
       (h.no_quiet_round noisy)
 

@@ -12,7 +12,7 @@ use Rattle.pt_types.proofs.LawfulEnds.{joined}
 use Rattle.pt_semantics.specs.Closing.{on_link}
 use Rattle.pt_semantics.specs.Rows.{FitRows}
 use Rattle.pt_semantics.specs.Turn.{Turn}
-use Rattle.pt_semantics.specs.Visits.{IsVisit, Made, leads_to}
+use Rattle.pt_semantics.specs.Visits.{IsVisit, VisitRecord, leads_to}
 use Rattle.pt_semantics.proofs.Lookups.{none_some, same_some}
 use Rattle.pt_causality.specs.Ranked.{level_of}
 use Rattle.pt_offsets.specs.Plans.{IsAdmitted, Parts}
@@ -36,7 +36,7 @@ use Rattle.pt_replay.specs.Shown.{AreShownInReplay}
 
 -- a visit of platform i, and what the platforms, airways and results represent after it
 pub record ShowsVisitAt (plan : Parts) (rows : ℕ → List Row) (air : Air) (now i : ℕ) (x : ReplayState) (w : PlatformView) (turn : Turn) (platforms : List PlatformView) (airways : List AirwayView) (results : List (List Done)) : Type 0 where
-  pub made : Made
+  pub made : VisitRecord
   pub state : ReplayState
   pub platform : made.platform ≡ i
   pub turn_is : made.turn ≡ turn

@@ -6,7 +6,7 @@ use Rattle.pt_semantics.specs.Kept.{kept}
 use Rattle.pt_semantics.specs.Linked.{AreLinked, AreMatched}
 use Rattle.pt_semantics.specs.Lists.{IsIn}
 use Rattle.pt_semantics.specs.Rows.{FitRows}
-use Rattle.pt_semantics.specs.Visits.{Made}
+use Rattle.pt_semantics.specs.Visits.{VisitRecord}
 use Rattle.pt_types.specs.declared.air.Air.{Air}
 use Rattle.pt_offsets.specs.Plans.{IsAdmitted, Parts}
 use Rattle.pt_turn.specs.declared.fault.TurnFault.{TurnFault}
@@ -24,8 +24,8 @@ pub record IsAfterReplay (plan : Parts) (rows : ℕ → List Row) (level : ℕ �
   pub run : IsWholeReplay plan.graph level air rows state
   pub kept_turns : (i : ℕ) (v : PlatformView) → slice_get platforms i ≡ Some v → v.turns ≡ kept (state.did i)
   pub states : (i : ℕ) (v : PlatformView) → slice_get platforms i ≡ Some v → state.at i ≡ state_at v
-  pub faults : (i : ℕ) (v : PlatformView) → slice_get platforms i ≡ Some v → (v.fault ≡ None) ↔ ((m : Made) → IsIn m run.made → m.platform ≡ i → m.fault ≡ false)
-  pub late : (i : ℕ) (v : PlatformView) → slice_get platforms i ≡ Some v → (m : Made) → IsIn m run.made → m.platform ≡ i → m.late ≡ is_late v.fault
+  pub faults : (i : ℕ) (v : PlatformView) → slice_get platforms i ≡ Some v → (v.fault ≡ None) ↔ ((m : VisitRecord) → IsIn m run.made → m.platform ≡ i → m.fault ≡ false)
+  pub late : (i : ℕ) (v : PlatformView) → slice_get platforms i ≡ Some v → (m : VisitRecord) → IsIn m run.made → m.platform ≡ i → m.late ≡ is_late v.fault
 
 -- all platforms of a plan, after a replayed run over these rows, with these lags and transits
 pub record IsOutcome (plan : Parts) (level : ℕ → ℕ) (rows : ℕ → List Row) (air : Air) (platforms : List PlatformView) (fault : Option (ℕ × TurnFault)) : Type 0 where

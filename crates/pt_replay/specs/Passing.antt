@@ -8,7 +8,7 @@ use Rattle.pt_causality.specs.Ranked.{level_of}
 use Rattle.pt_semantics.specs.Lists.{Each, IsIn}
 use Rattle.pt_semantics.specs.Rows.{FitRows}
 use Rattle.pt_semantics.specs.Turn.{is_quiet}
-use Rattle.pt_semantics.specs.Visits.{Made}
+use Rattle.pt_semantics.specs.Visits.{VisitRecord}
 use Rattle.pt_types.specs.declared.air.Air.{Air}
 use Rattle.pt_semantics.specs.Arrivals.{AirwayView}
 use Rattle.pt_offsets.specs.Plans.{IsAdmitted, Parts}
@@ -35,7 +35,7 @@ pub record IsBeforeRound (plan : Parts) (rows : ℕ → List Row) (air : Air) (c
   pub admitted : IsAdmitted plan
   pub fit : FitRows plan.graph rows
   pub transits : length air.transits ≡ length plan.graph.links
-  pub rounds : List (List Made)
+  pub rounds : List (List VisitRecord)
   pub rounds_made : length rounds ≡ count
   pub state : ReplayState
   pub run : IsReplay plan.graph (level_of plan.ranks) air rows rounds now state
@@ -43,18 +43,18 @@ pub record IsBeforeRound (plan : Parts) (rows : ℕ → List Row) (air : Air) (c
   pub no_fault : HaveNoFault platforms
 
 -- the turn of platform i in this round had a fault
-abbrev pub HasAnswered : List Made → ℕ → Type 0
-HasAnswered made i = (turn : Made) × IsIn turn made × (turn.platform ≡ i) × (turn.fault ≡ true)
+abbrev pub HasAnswered : List VisitRecord → ℕ → Type 0
+HasAnswered made i = (turn : VisitRecord) × IsIn turn made × (turn.platform ≡ i) × (turn.fault ≡ true)
 
 -- the first n platforms are done in a round that began at `before`
 pub record HavePassed (plan : Parts) (rows : ℕ → List Row) (air : Air) (now : ℕ) (before : ReplayState) (n : ℕ) (platforms : List PlatformView) (airways : List AirwayView) (results : List (List Done)) (quiet : Bool) : Type 0 where
-  pub made : List Made
+  pub made : List VisitRecord
   pub state : ReplayState
   pub round : ReplayRound plan.graph (level_of plan.ranks) air now n 0 before made state
   pub shown : AreShownInReplay plan rows state platforms airways results
   pub rest_stays : (j : ℕ) → n ≤ j → state.at j ≡ before.at j
   pub is_quiet_round : quiet ≡ true → IsQuiet before made state
-  pub no_quiet_round : quiet ≡ false → ((m : Made) × IsIn m made × (is_quiet m.turn ≡ false)) ⊎ ((j : ℕ) × (j < n) × ((state.at j).closed ≡ (before.at j).closed → ⊥))
+  pub no_quiet_round : quiet ≡ false → ((m : VisitRecord) × IsIn m made × (is_quiet m.turn ≡ false)) ⊎ ((j : ℕ) × (j < n) × ((state.at j).closed ≡ (before.at j).closed → ⊥))
   pub faults : (j : ℕ) (v : PlatformView) → slice_get platforms j ≡ Some v → (v.fault ≡ None) ⊎ ((j < n) × HasAnswered made j)
-  pub fine : HaveNoFault platforms → Each (λ (m : Made). m.fault ≡ false) made
-  pub answered : (j : ℕ) (v : PlatformView) → slice_get platforms j ≡ Some v → (m : Made) → IsIn m made → m.platform ≡ j → (m.fault ≡ is_fault v.fault) × (m.late ≡ is_late v.fault)
+  pub fine : HaveNoFault platforms → Each (λ (m : VisitRecord). m.fault ≡ false) made
+  pub answered : (j : ℕ) (v : PlatformView) → slice_get platforms j ≡ Some v → (m : VisitRecord) → IsIn m made → m.platform ≡ j → (m.fault ≡ is_fault v.fault) × (m.late ≡ is_late v.fault)

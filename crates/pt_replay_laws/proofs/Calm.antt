@@ -13,7 +13,7 @@ use Rattle.pt_semantics.specs.Lists.{IsIn}
 use Rattle.pt_semantics.specs.Platform.{State}
 use Rattle.pt_semantics.specs.Safe.{NothingSafe}
 use Rattle.pt_semantics.specs.Turn.{Turn, is_empty, is_quiet}
-use Rattle.pt_semantics.specs.Visits.{Made, leads_to}
+use Rattle.pt_semantics.specs.Visits.{VisitRecord, leads_to}
 use Rattle.pt_laws.proofs.Raise.{Rests, nothing_in, quiet_visit}
 use Rattle.pt_paced_laws.proofs.Turns.{turn_does}
 use Rattle.pt_types.specs.declared.air.Air.{Air}
@@ -78,7 +78,7 @@ take_none (z ∷ zs) h = absurd (never z (take 63 zs) h)
     never z zs h = cc
 
 -- after a quiet visit the platform is calm, and the airways are as they were
-module _ (g : Graph) (level : ℕ → ℕ) (air : Air) (now : ℕ) (x : ReplayState) (m : Made) (y : ReplayState) (f : IsVisitAt g level air now x m y) (quiet : is_quiet m.turn ≡ true) (late : m.late ≡ false) (fine : m.fault ≡ false) (closed : (y.at m.platform).closed ≡ (x.at m.platform).closed) where
+module _ (g : Graph) (level : ℕ → ℕ) (air : Air) (now : ℕ) (x : ReplayState) (m : VisitRecord) (y : ReplayState) (f : IsVisitAt g level air now x m y) (quiet : is_quiet m.turn ≡ true) (late : m.late ≡ false) (fine : m.fault ≡ false) (closed : (y.at m.platform).closed ≡ (x.at m.platform).closed) where
   nothing : HasNothing m.turn
   nothing = quiet_parts m.turn quiet
 

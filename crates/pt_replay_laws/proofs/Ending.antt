@@ -4,7 +4,7 @@ use Rattle.pt_types.specs.declared.graph.Graph.{Graph}
 use Rattle.pt_types.specs.declared.rows.Row.{Row}
 use Rattle.pt_semantics.specs.Ranks.{AreLevels}
 use Rattle.pt_semantics.specs.Rows.{FitRows}
-use Rattle.pt_semantics.specs.Visits.{Made}
+use Rattle.pt_semantics.specs.Visits.{VisitRecord}
 use Rattle.pt_semantics.specs.Wired.{IsWired}
 use Rattle.pt_paced_laws.proofs.Ending.{AreShort, one_more_round, start_to_do}
 use Rattle.pt_paced_laws.proofs.Moves.{IsFree, IsStillRound, all_to_do}
@@ -18,7 +18,7 @@ use Rattle.pt_replay_laws.proofs.Sound.{IsSound, sound_at_start}
 use Rattle.pt_replay_laws.proofs.Twice.{FollowsQuiet, never_twice}
 
 module _ (g : Graph) (level : ℕ → ℕ) (rows : ℕ → List Row) (air : Air) (wired : IsWired g) (are : AreLevels g level) (fits : FitRows g rows) where
-  rounds_short : (rounds : List (List Made)) (now end : ℕ) (x y : ReplayState) → IsSound g level rows 0 x → ReplayRounds g level air now x rounds end y → AreShort (IsFree x.at (length g.platforms) 0) (FollowsQuiet g air now x) (all_to_do g x.at x.did) (length rounds)
+  rounds_short : (rounds : List (List VisitRecord)) (now end : ℕ) (x y : ReplayState) → IsSound g level rows 0 x → ReplayRounds g level air now x rounds end y → AreShort (IsFree x.at (length g.platforms) 0) (FollowsQuiet g air now x) (all_to_do g x.at x.did) (length rounds)
   rounds_short [] now end x y h goes = record { any = omega arith; free = λ f. omega arith; quiet = λ f q. omega arith }
   rounds_short (ms ∷ rounds) now end x y h (next, mid, round, fine, on_going, follows, rest) =
       one_more_round _ (IsFree mid.at (length g.platforms) 0) _ (FollowsQuiet g air next mid) (IsStillRound x.at ms mid.at) (all_to_do g x.at x.did) (all_to_do g mid.at mid.did) (length rounds)

@@ -14,7 +14,7 @@ use Rattle.pt_semantics.specs.Lists.{Each, IsIn}
 use Rattle.pt_semantics.specs.Platform.{State, opened}
 use Rattle.pt_semantics.specs.Ranks.{AreLevels}
 use Rattle.pt_semantics.specs.Rows.{FitRows}
-use Rattle.pt_semantics.specs.Visits.{Made}
+use Rattle.pt_semantics.specs.Visits.{VisitRecord}
 use Rattle.pt_semantics.specs.Wired.{IsWired}
 use Rattle.pt_semantics.proofs.Longest.{levels_grow}
 use Rattle.pt_semantics.proofs.Lookups.{none_some, same_some}
@@ -37,12 +37,12 @@ use Rattle.pt_replay_laws.proofs.Sound.{IsSound, joins, others, own_turn, sound_
 use Rattle.pt_paced_laws.proofs.Places.{is_above, is_first, is_later, is_passed, none_left, not_before, one_fewer}
 
 -- if nothing is open, nothing is posted
-pub round_posts_nothing : (g : Graph) (level : ℕ → ℕ) (air : Air) (now n i : ℕ) (x : ReplayState) (ms : List Made) (y : ReplayState) → ReplayRound g level air now n i x ms y → IsFree x.at n i → Each (λ (m : Made). m.turn.posted ≡ []) ms
-round_posts_nothing g level air now zero i x ms y round free = subst (Each (λ (m : Made). m.turn.posted ≡ [])) (sym round.0) tt
+pub round_posts_nothing : (g : Graph) (level : ℕ → ℕ) (air : Air) (now n i : ℕ) (x : ReplayState) (ms : List VisitRecord) (y : ReplayState) → ReplayRound g level air now n i x ms y → IsFree x.at n i → Each (λ (m : VisitRecord). m.turn.posted ≡ []) ms
+round_posts_nothing g level air now zero i x ms y round free = subst (Each (λ (m : VisitRecord). m.turn.posted ≡ [])) (sym round.0) tt
 round_posts_nothing g level air now (suc n) i x ms y round free = ⊎_elim
     (λ (done : IsFinished g i (x.at i) × ReplayRound g level air now n (suc i) x ms y). round_posts_nothing g level air now n (suc i) x ms y done.1 (λ j le lt. free j (omega (arith, le)) (omega (arith, lt))))
     (λ (one : Begins g level air now n i x ms y).
-    subst (Each (λ (m : Made). m.turn.posted ≡ [])) (sym one.4) (
+    subst (Each (λ (m : VisitRecord). m.turn.posted ≡ [])) (sym one.4) (
       nothing_posted g one.1.turn.posted (x.at one.1.platform) one.6.visit.is.posted (λ u. free one.1.platform (not_before one.1.platform i one.5) (is_first i one.1.platform n one.5) u) one.6.visit.is.posts,
       round_posts_nothing g level air now n (suc i) one.3 one.2 y one.7 (λ j le lt u.
           ap (λ (s : State). s.busy u) (others g level air now x one.1 one.3 one.6 j (λ e. is_above j i one.1.platform le e one.5)).0
@@ -51,12 +51,12 @@ round_posts_nothing g level air now (suc n) i x ms y round free = ⊎_elim
     round
 
 -- a round without a move that posts nothing is quiet
-pub quiet_still : (x : ReplayState) (ms : List Made) (y : ReplayState) → IsStillRound x.at ms y.at → Each (λ (m : Made). m.turn.posted ≡ []) ms → IsQuiet x ms y
+pub quiet_still : (x : ReplayState) (ms : List VisitRecord) (y : ReplayState) → IsStillRound x.at ms y.at → Each (λ (m : VisitRecord). m.turn.posted ≡ []) ms → IsQuiet x ms y
 quiet_still x ms y still none = record { quiet = quiet_turns ms still.turns none; closed = still.closed }
 
 module _ (g : Graph) (level : ℕ → ℕ) (rows : ℕ → List Row) (air : Air) (wired : IsWired g) (are : AreLevels g level) (fits : FitRows g rows) (now : ℕ) where
   -- after a visit without a fault
-  sound_then : (x : ReplayState) (m : Made) (y : ReplayState) → IsSound g level rows 0 x → IsVisitAt g level air now x m y → m.fault ≡ false → IsSound g level rows 0 y
+  sound_then : (x : ReplayState) (m : VisitRecord) (y : ReplayState) → IsSound g level rows 0 x → IsVisitAt g level air now x m y → m.fault ≡ false → IsSound g level rows 0 y
   sound_then x m y h f fine = sound_visit g level rows wired are fits air now 0 x m y h f (omega arith) 0 (omega arith) (λ low. fine)
 
   carries_few : (y : ReplayState) → IsSound g level rows 0 y → (l : ℕ) (link : Link) → slice_get g.links l ≡ Some link → length (all_sent l (y.did (platform_of g link.from))) ≤ (g.claims + 1)
@@ -71,7 +71,7 @@ module _ (g : Graph) (level : ℕ → ℕ) (rows : ℕ → List Row) (air : Air)
       omega (arith, sent, sum)
 
   -- what a platform sends is on its own links
-  sent_on : (x : ReplayState) (m : Made) (y : ReplayState) → IsSound g level rows 0 x → IsVisitAt g level air now x m y → (o : OnLink) → IsIn o m.turn.sent → (link : Link) × (slice_get g.links o.link ≡ Some link) × (platform_of g link.from ≡ m.platform)
+  sent_on : (x : ReplayState) (m : VisitRecord) (y : ReplayState) → IsSound g level rows 0 x → IsVisitAt g level air now x m y → (o : OnLink) → IsIn o m.turn.sent → (link : Link) × (slice_get g.links o.link ≡ Some link) × (platform_of g link.from ≡ m.platform)
   sent_on x m y h f o mem = by_link (slice_get g.links o.link) refl
     where
       never : IsForeign g m.platform o.link → ⊥
@@ -86,7 +86,7 @@ module _ (g : Graph) (level : ℕ → ℕ) (rows : ℕ → List Row) (air : Air)
           (λ (away : platform_of g link.from ≢ m.platform). absurd (never (λ other at home. away (ap (λ (z : Link). platform_of g z.from) (same_some link other (sym e ∙ at)) ∙ home))))
           (cases_same (platform_of g link.from) m.platform)
 
-  visit_falls : (x : ReplayState) (m : Made) (y : ReplayState) → IsSound g level rows 0 x → IsVisitAt g level air now x m y → m.fault ≡ false → m.platform < length g.platforms →
+  visit_falls : (x : ReplayState) (m : VisitRecord) (y : ReplayState) → IsSound g level rows 0 x → IsVisitAt g level air now x m y → m.fault ≡ false → m.platform < length g.platforms →
       Falls (IsStill (x.at m.platform) m.turn (y.at m.platform)) (all_to_do g x.at x.did) (all_to_do g y.at y.did)
   visit_falls x m y h f fine lt =
       one_falls (IsStill (x.at m.platform) m.turn (y.at m.platform)) (λ i. to_do g (x.at i) (x.did i)) (λ i. to_do g (y.at i) (y.did i)) (length g.platforms) m.platform lt
@@ -115,25 +115,25 @@ module _ (g : Graph) (level : ℕ → ℕ) (rows : ℕ → List Row) (air : Air)
             (subst (λ i. length (all_taken o.link (y.did i)) ≤ (g.claims + 1)) on.2 (takes_few y after o.link on.0 on.1));
       }
 
-  pub round_falls : (n i : ℕ) (x : ReplayState) (ms : List Made) (y : ReplayState) → n + i ≤ length g.platforms → IsSound g level rows 0 x → ReplayRound g level air now n i x ms y → Each (λ (m : Made). m.fault ≡ false) ms → Falls (IsStillRound x.at ms y.at) (all_to_do g x.at x.did) (all_to_do g y.at y.did)
+  pub round_falls : (n i : ℕ) (x : ReplayState) (ms : List VisitRecord) (y : ReplayState) → n + i ≤ length g.platforms → IsSound g level rows 0 x → ReplayRound g level air now n i x ms y → Each (λ (m : VisitRecord). m.fault ≡ false) ms → Falls (IsStillRound x.at ms y.at) (all_to_do g x.at x.did) (all_to_do g y.at y.did)
   round_falls zero i x ms y le h (none, same) fine =
       subst (λ z. Falls (IsStillRound x.at ms z.at) (all_to_do g x.at x.did) (all_to_do g z.at z.did)) (sym same)
-      (omega arith, inl (record { turns = subst (Each (λ (m : Made). MovesNothing m.turn)) (sym none) tt; closed = λ j. refl }))
+      (omega arith, inl (record { turns = subst (Each (λ (m : VisitRecord). MovesNothing m.turn)) (sym none) tt; closed = λ j. refl }))
   round_falls (suc n) i x ms y le h round fine = ⊎_elim
       (λ (done : IsFinished g i (x.at i) × ReplayRound g level air now n (suc i) x ms y). round_falls n (suc i) x ms y (omega (arith, le)) h done.1 fine)
       (λ (one : Begins g level air now n i x ms y).
-      let all : Each (λ (m : Made). m.fault ≡ false) (one.1 ∷ one.2) = subst (Each (λ (m : Made). m.fault ≡ false)) one.4 fine in
+      let all : Each (λ (m : VisitRecord). m.fault ≡ false) (one.1 ∷ one.2) = subst (Each (λ (m : VisitRecord). m.fault ≡ false)) one.4 fine in
       let lt : one.1.platform < length g.platforms = subst (λ j. j < length g.platforms) (sym one.5) (omega (arith, le)) in
       then_falls (IsStill (x.at one.1.platform) one.1.turn (one.3.at one.1.platform)) (IsStillRound one.3.at one.2 y.at) (IsStillRound x.at ms y.at) (all_to_do g x.at x.did) (all_to_do g one.3.at one.3.did) (all_to_do g y.at y.did)
       (λ still rest. record {
-        turns = subst (Each (λ (m : Made). MovesNothing m.turn)) (sym one.4) (still.nothing, rest.turns);
+        turns = subst (Each (λ (m : VisitRecord). MovesNothing m.turn)) (sym one.4) (still.nothing, rest.turns);
         closed = λ j. rest.closed j ∙ stays x one.1 one.3 one.6 still.closed j;
       })
       (visit_falls x one.1 one.3 h one.6 all.0 lt)
       (round_falls n (suc i) one.3 one.2 y (omega (arith, le)) (sound_then x one.1 one.3 h one.6 all.0) one.7 all.1))
       round
     where
-      stays : (x : ReplayState) (m : Made) (mid : ReplayState) → IsVisitAt g level air now x m mid → (mid.at m.platform).closed ≡ (x.at m.platform).closed → (j : ℕ) → (mid.at j).closed ≡ (x.at j).closed
+      stays : (x : ReplayState) (m : VisitRecord) (mid : ReplayState) → IsVisitAt g level air now x m mid → (mid.at m.platform).closed ≡ (x.at m.platform).closed → (j : ℕ) → (mid.at j).closed ≡ (x.at j).closed
       stays x m mid f here j = ⊎_elim
           (λ (e : j ≡ m.platform). subst (λ i. (mid.at i).closed ≡ (x.at i).closed) (sym e) here)
           (λ (ne : j ≢ m.platform). ap (λ (s : State). s.closed) (others g level air now x m mid f j ne).0)
@@ -144,7 +144,7 @@ module _ (g : Graph) (level : ℕ → ℕ) (rows : ℕ → List Row) (air : Air)
   finished_free i x h done =
       ((on_time_history g level i rows wired (levels_grow g level are) fits (x.did i) (x.at i) (goes_on_time g level i (x.did i) (opened g i rows) (x.at i) (h.goes i (omega arith)))).keeps.is_shut done.closed).busy
 
-  pub round_frees : (n i : ℕ) (x : ReplayState) (ms : List Made) (y : ReplayState) → IsSound g level rows 0 x → ReplayRound g level air now n i x ms y → Each (λ (m : Made). m.fault ≡ false) ms → Each (λ (m : Made). MovesNothing m.turn) ms → IsFree y.at n i
+  pub round_frees : (n i : ℕ) (x : ReplayState) (ms : List VisitRecord) (y : ReplayState) → IsSound g level rows 0 x → ReplayRound g level air now n i x ms y → Each (λ (m : VisitRecord). m.fault ≡ false) ms → Each (λ (m : VisitRecord). MovesNothing m.turn) ms → IsFree y.at n i
   round_frees zero i x ms y h round fine still j from below u = absurd (none_left i j from below)
   round_frees (suc n) i x ms y h round fine still j from below u = ⊎_elim
       (λ (done : IsFinished g i (x.at i) × ReplayRound g level air now n (suc i) x ms y).
@@ -155,8 +155,8 @@ module _ (g : Graph) (level : ℕ → ℕ) (rows : ℕ → List Row) (air : Air)
       (λ (there : j ≢ i). round_frees n (suc i) x ms y h done.1 fine still j (is_later i j from there) (one_fewer n i j below) u)
       (cases_same j i))
       (λ (one : Begins g level air now n i x ms y).
-      let all : Each (λ (m : Made). m.fault ≡ false) (one.1 ∷ one.2) = subst (Each (λ (m : Made). m.fault ≡ false)) one.4 fine in
-      let moves : Each (λ (m : Made). MovesNothing m.turn) (one.1 ∷ one.2) = subst (Each (λ (m : Made). MovesNothing m.turn)) one.4 still in
+      let all : Each (λ (m : VisitRecord). m.fault ≡ false) (one.1 ∷ one.2) = subst (Each (λ (m : VisitRecord). m.fault ≡ false)) one.4 fine in
+      let moves : Each (λ (m : VisitRecord). MovesNothing m.turn) (one.1 ∷ one.2) = subst (Each (λ (m : VisitRecord). MovesNothing m.turn)) one.4 still in
       ⊎_elim
       (λ (here : j ≡ i).
       subst (λ k. (y.at k).busy u ≡ None) (one.5 ∙ sym here)

@@ -20,7 +20,7 @@ use Rattle.pt_semantics.specs.Ranks.{AreLevels}
 use Rattle.pt_semantics.specs.Rows.{FitRows}
 use Rattle.pt_semantics.specs.Turn.{is_quiet}
 use Rattle.pt_semantics.specs.Units.{HasEvent, at_input, at_output}
-use Rattle.pt_semantics.specs.Visits.{Made}
+use Rattle.pt_semantics.specs.Visits.{VisitRecord}
 use Rattle.pt_semantics.specs.Wired.{IsWired}
 use Rattle.pt_semantics.proofs.Claiming.{has_event}
 use Rattle.pt_semantics.proofs.Least.{paced_meets}
@@ -44,11 +44,11 @@ use Rattle.pt_replay_laws.proofs.Sound.{IsSound, not_late, others}
 use Rattle.pt_paced_laws.proofs.Places.{is_above, is_below, is_later, is_passed, none_left, not_before, one_fewer}
 
 -- a visit as a round begins with it
-abbrev pub Begins : Graph → (ℕ → ℕ) → Air → ℕ → ℕ → ℕ → ReplayState → List Made → ReplayState → Type 0
+abbrev pub Begins : Graph → (ℕ → ℕ) → Air → ℕ → ℕ → ℕ → ReplayState → List VisitRecord → ReplayState → Type 0
 Begins g level air now n i x ms y =
-    (IsFinished g i (x.at i) → ⊥) × (m : Made) × (rest : List Made) × (mid : ReplayState) × (ms ≡ m ∷ rest) × (m.platform ≡ i) × IsVisitAt g level air now x m mid × ReplayRound g level air now n (suc i) mid rest y
+    (IsFinished g i (x.at i) → ⊥) × (m : VisitRecord) × (rest : List VisitRecord) × (mid : ReplayState) × (ms ≡ m ∷ rest) × (m.platform ≡ i) × IsVisitAt g level air now x m mid × ReplayRound g level air now n (suc i) mid rest y
 
-pub round_leaves : (g : Graph) (level : ℕ → ℕ) (air : Air) (now n i : ℕ) (x : ReplayState) (ms : List Made) (y : ReplayState) → ReplayRound g level air now n i x ms y → (j : ℕ) → j < i → y.at j ≡ x.at j
+pub round_leaves : (g : Graph) (level : ℕ → ℕ) (air : Air) (now n i : ℕ) (x : ReplayState) (ms : List VisitRecord) (y : ReplayState) → ReplayRound g level air now n i x ms y → (j : ℕ) → j < i → y.at j ≡ x.at j
 round_leaves g level air now zero i x ms y r j lt = ap (λ (z : ReplayState). z.at j) r.1
 round_leaves g level air now (suc n) i x ms y r j lt = ⊎_elim
     (λ (done : IsFinished g i (x.at i) × ReplayRound g level air now n (suc i) x ms y). round_leaves g level air now n (suc i) x ms y done.1 j (omega arith))
@@ -59,7 +59,7 @@ round_leaves g level air now (suc n) i x ms y r j lt = ⊎_elim
 abbrev pub IsSettled : Graph → Air → ℕ → ReplayState → ℕ → Type 0
 IsSettled g air now y j = IsFinished g j (y.at j) ⊎ IsCalm g air now j (y.at j) y.airways
 
-pub quiet_round : (g : Graph) (level : ℕ → ℕ) (air : Air) (now n i : ℕ) (x : ReplayState) (ms : List Made) (y : ReplayState) → ReplayRound g level air now n i x ms y → Each (λ (m : Made). is_quiet m.turn ≡ true) ms → Each (λ (m : Made). m.fault ≡ false) ms → ((j : ℕ) → i ≤ j → (y.at j).closed ≡ (x.at j).closed) →
+pub quiet_round : (g : Graph) (level : ℕ → ℕ) (air : Air) (now n i : ℕ) (x : ReplayState) (ms : List VisitRecord) (y : ReplayState) → ReplayRound g level air now n i x ms y → Each (λ (m : VisitRecord). is_quiet m.turn ≡ true) ms → Each (λ (m : VisitRecord). m.fault ≡ false) ms → ((j : ℕ) → i ≤ j → (y.at j).closed ≡ (x.at j).closed) →
     ((l : ℕ) → y.airways l ≡ x.airways l) × ((j : ℕ) → i ≤ j → j < n + i → IsSettled g air now y j)
 quiet_round g level air now zero i x ms y r quiet fine closed = ((λ l. ap (λ (z : ReplayState). z.airways l) r.1), (λ j a b. absurd (none_left i j a b)))
 quiet_round g level air now (suc n) i x ms y r quiet fine closed = ⊎_elim
@@ -73,10 +73,10 @@ quiet_round g level air now (suc n) i x ms y r quiet fine closed = ⊎_elim
           (cases_same j i),
     ))
     (λ (one : Begins g level air now n i x ms y).
-    let m : Made = one.1 in
+    let m : VisitRecord = one.1 in
     let mid : ReplayState = one.3 in
-    let q2 : Each (λ (z : Made). is_quiet z.turn ≡ true) (m ∷ one.2) = subst (Each (λ (z : Made). is_quiet z.turn ≡ true)) one.4 quiet in
-    let f2 : Each (λ (z : Made). z.fault ≡ false) (m ∷ one.2) = subst (Each (λ (z : Made). z.fault ≡ false)) one.4 fine in
+    let q2 : Each (λ (z : VisitRecord). is_quiet z.turn ≡ true) (m ∷ one.2) = subst (Each (λ (z : VisitRecord). is_quiet z.turn ≡ true)) one.4 quiet in
+    let f2 : Each (λ (z : VisitRecord). z.fault ≡ false) (m ∷ one.2) = subst (Each (λ (z : VisitRecord). z.fault ≡ false)) one.4 fine in
     let leaves : y.at m.platform ≡ mid.at m.platform = round_leaves g level air now n (suc i) mid one.2 y one.7 m.platform (is_passed m.platform i one.5) in
     let closed_here : (mid.at m.platform).closed ≡ (x.at m.platform).closed = ap (λ (z : State). z.closed) (sym leaves) ∙ closed m.platform (not_before m.platform i one.5) in
     let late : m.late ≡ false = not_late g level air now x m mid one.6 f2.0 in

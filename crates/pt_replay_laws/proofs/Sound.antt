@@ -17,7 +17,7 @@ use Rattle.pt_semantics.specs.Platform.{State, opened}
 use Rattle.pt_semantics.specs.Ranks.{AreLevels}
 use Rattle.pt_semantics.specs.Rows.{FitRows}
 use Rattle.pt_semantics.specs.Turn.{IsLast, IsTurn, Turn}
-use Rattle.pt_semantics.specs.Visits.{Made}
+use Rattle.pt_semantics.specs.Visits.{VisitRecord}
 use Rattle.pt_semantics.specs.Wired.{IsWired}
 use Rattle.pt_semantics.proofs.Longest.{levels_grow}
 use Rattle.pt_laws.proofs.Bounds.{outgoing_orderly_after}
@@ -34,7 +34,7 @@ use Rattle.pt_replay_laws.specs.ReplayState.{IsVisitAt, ReplayState, replay_at_s
 use Rattle.pt_replay_laws.proofs.Ways.{carried, come_front, drop_falls, left_carried, put_carried, put_falls}
 
 -- what a visit does
-module _ (g : Graph) (level : ℕ → ℕ) (air : Air) (now : ℕ) (x : ReplayState) (m : Made) (y : ReplayState) (f : IsVisitAt g level air now x m y) where
+module _ (g : Graph) (level : ℕ → ℕ) (air : Air) (now : ℕ) (x : ReplayState) (m : VisitRecord) (y : ReplayState) (f : IsVisitAt g level air now x m y) where
   pub others : (p : ℕ) → p ≢ m.platform → (y.at p ≡ x.at p) × (y.did p ≡ x.did p)
   others p ne = (ap (λ (z : ℕ → State). z p) f.states ∙ (f.visit.others p ne).0, ap (λ (z : ℕ → List Turn). z p) f.turns ∙ (f.visit.others p ne).1)
 
@@ -120,7 +120,7 @@ sound_further g level rows n k x le h = record {
 }
 
 module _ (g : Graph) (level : ℕ → ℕ) (rows : ℕ → List Row) (wired : IsWired g) (are : AreLevels g level) (fits : FitRows g rows) where
-  module _ (air : Air) (now n : ℕ) (x : ReplayState) (m : Made) (y : ReplayState) (h : IsSound g level rows n x) (f : IsVisitAt g level air now x m y) (le : n ≤ m.platform) where
+  module _ (air : Air) (now n : ℕ) (x : ReplayState) (m : VisitRecord) (y : ReplayState) (h : IsSound g level rows n x) (f : IsVisitAt g level air now x m y) (le : n ≤ m.platform) where
     pub own_turn : Own g level m.platform (x.at m.platform) m.turn (y.at m.platform)
     own_turn = turn_own g level m.platform (x.at m.platform) (y.at m.platform) m.turn m.late
         (home_on_time g level m.platform rows (x.did m.platform) (x.at m.platform) wired (levels_grow g level are) fits (goes_on_time g level m.platform (x.did m.platform) (opened g m.platform rows) (x.at m.platform) (h.goes m.platform le))).busy

@@ -15,7 +15,7 @@ use Rattle.pt_semantics.specs.Ranks.{AreLevels}
 use Rattle.pt_semantics.specs.Rows.{FitRows}
 use Rattle.pt_semantics.specs.Safe.{NothingSafe}
 use Rattle.pt_semantics.specs.Turn.{IsTurn, Turn, is_quiet}
-use Rattle.pt_semantics.specs.Visits.{Made}
+use Rattle.pt_semantics.specs.Visits.{VisitRecord}
 use Rattle.pt_semantics.specs.Wired.{IsWired}
 use Rattle.pt_laws.proofs.Onward.{cases_same}
 use Rattle.pt_laws.proofs.Progress.{turns_move}
@@ -40,7 +40,7 @@ pub record IsReady (g : Graph) (level : ℕ → ℕ) (rows : ℕ → List Row) (
 
 module _ (g : Graph) (level : ℕ → ℕ) (rows : ℕ → List Row) (air : Air) (wired : IsWired g) (are : AreLevels g level) (fits : FitRows g rows) (now v : ℕ) where
   -- its visit at that reading or later is not quiet
-  visit_moves : (x : ReplayState) (m : Made) (y : ReplayState) → IsVisitAt g level air now x m y → IsReady g level rows v m.platform (x.at m.platform) (x.did m.platform) → v ≤ reading_at air m.platform now → is_quiet m.turn ≡ true → m.fault ≡ false → (y.at m.platform).closed ≡ (x.at m.platform).closed → ⊥
+  visit_moves : (x : ReplayState) (m : VisitRecord) (y : ReplayState) → IsVisitAt g level air now x m y → IsReady g level rows v m.platform (x.at m.platform) (x.did m.platform) → v ≤ reading_at air m.platform now → is_quiet m.turn ≡ true → m.fault ≡ false → (y.at m.platform).closed ≡ (x.at m.platform).closed → ⊥
   visit_moves x m y f ready le quiet fine closed =
       never (moves m.late (not_late g level air now x m y f fine) (turn_of g level air now x m y f) f.visit.handed)
     where
@@ -62,7 +62,7 @@ module _ (g : Graph) (level : ℕ → ℕ) (rows : ℕ → List Row) (air : Air)
           false≢true (sym fine ∙ f.visit.faults.0 (inr (many, λ safe. unsafe (subst (λ n. NothingSafe g f.visit.is.ready.waits f.visit.is.ready.busy n) (sym f.visit.last) safe))))
 
   -- so a round is not quiet in which a ready platform is visited
-  round_moves : (n i j : ℕ) (x : ReplayState) (ms : List Made) (y : ReplayState) → ReplayRound g level air now n i x ms y → i ≤ j → j < n + i → IsReady g level rows v j (x.at j) (x.did j) → v ≤ reading_at air j now → Each (λ (m : Made). is_quiet m.turn ≡ true) ms → Each (λ (m : Made). m.fault ≡ false) ms → ((k : ℕ) → i ≤ k → (y.at k).closed ≡ (x.at k).closed) → ⊥
+  round_moves : (n i j : ℕ) (x : ReplayState) (ms : List VisitRecord) (y : ReplayState) → ReplayRound g level air now n i x ms y → i ≤ j → j < n + i → IsReady g level rows v j (x.at j) (x.did j) → v ≤ reading_at air j now → Each (λ (m : VisitRecord). is_quiet m.turn ≡ true) ms → Each (λ (m : VisitRecord). m.fault ≡ false) ms → ((k : ℕ) → i ≤ k → (y.at k).closed ≡ (x.at k).closed) → ⊥
   round_moves zero i j x ms y round from below ready le quiet fine closed = none_left i j from below
   round_moves (suc n) i j x ms y round from below ready le quiet fine closed = ⊎_elim
       (λ (done : IsFinished g i (x.at i) × ReplayRound g level air now n (suc i) x ms y).
@@ -71,9 +71,9 @@ module _ (g : Graph) (level : ℕ → ℕ) (rows : ℕ → List Row) (air : Air)
       (λ (there : j ≢ i). round_moves n (suc i) j x ms y done.1 (is_later i j from there) (one_fewer n i j below) ready le quiet fine (λ k past. closed k (omega (arith, past))))
       (cases_same j i))
       (λ (one : Begins g level air now n i x ms y).
-      let m : Made = one.1 in
-      let q2 : Each (λ (z : Made). is_quiet z.turn ≡ true) (m ∷ one.2) = subst (Each (λ (z : Made). is_quiet z.turn ≡ true)) one.4 quiet in
-      let f2 : Each (λ (z : Made). z.fault ≡ false) (m ∷ one.2) = subst (Each (λ (z : Made). z.fault ≡ false)) one.4 fine in
+      let m : VisitRecord = one.1 in
+      let q2 : Each (λ (z : VisitRecord). is_quiet z.turn ≡ true) (m ∷ one.2) = subst (Each (λ (z : VisitRecord). is_quiet z.turn ≡ true)) one.4 quiet in
+      let f2 : Each (λ (z : VisitRecord). z.fault ≡ false) (m ∷ one.2) = subst (Each (λ (z : VisitRecord). z.fault ≡ false)) one.4 fine in
       ⊎_elim
       (λ (here : j ≡ i).
       let same : j ≡ m.platform = here ∙ sym one.5 in
@@ -97,8 +97,8 @@ pub record FollowsQuiet (g : Graph) (air : Air) (now : ℕ) (x : ReplayState) : 
   pub settled : (j : ℕ) → j < length g.platforms → IsSettled g air before x j
   pub next : IsNextTime g air x now
 
-pub never_twice : (g : Graph) (level : ℕ → ℕ) (rows : ℕ → List Row) (air : Air) (now : ℕ) (x : ReplayState) (ms : List Made) (y : ReplayState) → IsWired g → AreLevels g level → FitRows g rows → IsSound g level rows 0 x → FollowsQuiet g air now x →
-    ReplayRound g level air now (length g.platforms) 0 x ms y → Each (λ (m : Made). m.fault ≡ false) ms → IsQuiet x ms y → ⊥
+pub never_twice : (g : Graph) (level : ℕ → ℕ) (rows : ℕ → List Row) (air : Air) (now : ℕ) (x : ReplayState) (ms : List VisitRecord) (y : ReplayState) → IsWired g → AreLevels g level → FitRows g rows → IsSound g level rows 0 x → FollowsQuiet g air now x →
+    ReplayRound g level air now (length g.platforms) 0 x ms y → Each (λ (m : VisitRecord). m.fault ≡ false) ms → IsQuiet x ms y → ⊥
 never_twice g level rows air now x ms y wired are fits h follows round fine quiet = ⊎_elim
     (λ (reading : (i : ℕ) × (i < length g.platforms) × ((x.at i).closed ≡ false) × (v : ℕ) × IsCandidate g i (x.at i) v × (now ≡ true_time air i v)).
     round_moves g level rows air wired are fits now reading.3 (length g.platforms) 0 reading.0 x ms y round (omega arith) (omega (arith, reading.1))

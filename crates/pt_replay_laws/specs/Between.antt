@@ -13,7 +13,7 @@ use Rattle.pt_semantics.specs.Orderly.{IsOrderly}
 use Rattle.pt_semantics.specs.Platform.{opened}
 use Rattle.pt_semantics.specs.Ranks.{AreLevels}
 use Rattle.pt_semantics.specs.Rows.{FitRows}
-use Rattle.pt_semantics.specs.Visits.{Made}
+use Rattle.pt_semantics.specs.Visits.{VisitRecord}
 use Rattle.pt_semantics.specs.Wired.{IsWired}
 use Rattle.pt_types.specs.declared.air.Air.{Air}
 use Rattle.pt_types.specs.declared.air.InAir.{InAir}
@@ -27,10 +27,10 @@ abbrev pub under_way : ReplayState → ℕ → List Message
 under_way x l = map (λ (m : InAir). m.message) (x.airways l).on_way
 
 -- what is true in a round at a true time, after these visits of it
-pub record AreBetween (g : Graph) (level : ℕ → ℕ) (air : Air) (rows : ℕ → List Row) (now : ℕ) (ms : List Made) (y : ReplayState) : Type 0 where
+pub record AreBetween (g : Graph) (level : ℕ → ℕ) (air : Air) (rows : ℕ → List Row) (now : ℕ) (ms : List VisitRecord) (y : ReplayState) : Type 0 where
   pub legal : (p : ℕ) → p < length g.platforms → Legal g level p (opened g p rows) (y.did p) (y.at p)
   -- of a platform that took no late message in this round
-  pub on_time : (p : ℕ) → p < length g.platforms → ((m : Made) → IsIn m ms → m.platform ≡ p → m.late ≡ false) → LegalOnTime g level p (opened g p rows) (y.did p) (y.at p)
+  pub on_time : (p : ℕ) → p < length g.platforms → ((m : VisitRecord) → IsIn m ms → m.platform ≡ p → m.late ≡ false) → LegalOnTime g level p (opened g p rows) (y.did p) (y.at p)
   pub own : (p : ℕ) → p < length g.platforms → SendsNothingElse g p (y.at p)
   -- what was sent on a link was taken, or is on its way
   pub linked : (l : ℕ) (link : Link) → slice_get g.links l ≡ Some link → all_sent l (y.did (platform_of g link.from)) ≡ all_taken l (y.did (platform_of g link.to)) ++ under_way y l
@@ -41,7 +41,7 @@ pub record AreBetween (g : Graph) (level : ℕ → ℕ) (air : Air) (rows : ℕ 
 
 -- in each round these are true after each visit
 abbrev pub VisitsKeep : Type 0
-VisitsKeep = (g : Graph) (level : ℕ → ℕ) (air : Air) (rows : ℕ → List Row) (rounds : List (List Made)) (now n : ℕ) (ms : List Made) (y : ReplayState) →
+VisitsKeep = (g : Graph) (level : ℕ → ℕ) (air : Air) (rows : ℕ → List Row) (rounds : List (List VisitRecord)) (now n : ℕ) (ms : List VisitRecord) (y : ReplayState) →
     IsWired g → AreLevels g level → FitRows g rows → IsReplayInRound g level air rows rounds now n ms y → AreBetween g level air rows now ms y
 
 -- as they are recorded, the histories of a whole replayed run are legal and matched, and linked if all platforms are finished

@@ -9,7 +9,7 @@ use Rattle.pt_semantics.specs.Lists.{IsIn}
 use Rattle.pt_semantics.specs.Paced.{IsCandidate}
 use Rattle.pt_semantics.specs.Platform.{State, opened}
 use Rattle.pt_semantics.specs.Turn.{Turn}
-use Rattle.pt_semantics.specs.Visits.{IsVisit, Made, Together}
+use Rattle.pt_semantics.specs.Visits.{IsVisit, VisitRecord, RunState}
 use Rattle.pt_types.specs.declared.air.Air.{Air}
 use Rattle.pt_types.specs.declared.air.InAir.{InAir}
 use Rattle.pt_semantics.specs.Arrivals.{AirwayView, empty_airway}
@@ -30,7 +30,7 @@ abbrev pub AllFinished : Graph → ReplayState → Type 0
 AllFinished g x = (i : ℕ) → i < length g.platforms → IsFinished g i (x.at i)
 
 -- what platform i sees of it at a true time: of the messages on each link to it, those that have arrived, at most 64
-abbrev pub come_to : Graph → ℕ → ℕ → ReplayState → Together
+abbrev pub come_to : Graph → ℕ → ℕ → ReplayState → RunState
 come_to g i now x = record { at = x.at; did = x.did; on_way = λ l. come_on g i now l (x.airways l) }
 
 -- the airway without these messages, its oldest ones
@@ -39,8 +39,8 @@ taken_off ms a = record a { on_way = drop (length ms) a.on_way }
 
 -- a visit at a true time: a visit of a platform, at the reading of its clock, with the messages that have come. What it takes
 -- is no longer on its way, and what it sends is
-pub record IsVisitAt (g : Graph) (level : ℕ → ℕ) (air : Air) (now : ℕ) (x : ReplayState) (m : Made) (y : ReplayState) : Type 0 where
-  pub after : Together
+pub record IsVisitAt (g : Graph) (level : ℕ → ℕ) (air : Air) (now : ℕ) (x : ReplayState) (m : VisitRecord) (y : ReplayState) : Type 0 where
+  pub after : RunState
   pub visit : IsVisit g level 64 (λ l. 64) (reading_at air m.platform now) (come_to g m.platform now x) m after
   pub states : y.at ≡ after.at
   pub turns : y.did ≡ after.did

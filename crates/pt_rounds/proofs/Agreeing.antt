@@ -7,7 +7,7 @@ use Rattle.pt_types.specs.declared.graph.Graph.{Graph}
 use Rattle.pt_types.specs.declared.rows.Row.{Row}
 use Rattle.pt_semantics.specs.Kept.{kept}
 use Rattle.pt_semantics.specs.Lists.{IsIn}
-use Rattle.pt_semantics.specs.Visits.{Made, Together}
+use Rattle.pt_semantics.specs.Visits.{VisitRecord, RunState}
 use Rattle.pt_semantics.proofs.Acyclic.{levels_are_one}
 use Rattle.pt_semantics.proofs.Lookups.{none_some}
 use Rattle.pt_laws.proofs.Onward.{cases_same}
@@ -28,11 +28,11 @@ use Rattle.pt_engine.proofs.Listed.{member}
 
 -- what a run of a graph leaves, apart from the other parts of its plan
 record Leaves (g : Graph) (level : ℕ → ℕ) (rows : ℕ → List Row) (platforms : List PlatformView) (fault : Option (ℕ × TurnFault)) : Type 0 where
-  y : Together
+  y : RunState
   end : IsEnd g level rows y
   count : length platforms ≡ length g.platforms
   kept_turns : (i : ℕ) (v : PlatformView) → slice_get platforms i ≡ Some v → v.turns ≡ kept (y.did i)
-  faults : (i : ℕ) (v : PlatformView) → slice_get platforms i ≡ Some v → (v.fault ≡ None) ↔ ((m : Made) → IsIn m end.run.made → m.platform ≡ i → m.fault ≡ false)
+  faults : (i : ℕ) (v : PlatformView) → slice_get platforms i ≡ Some v → (v.fault ≡ None) ↔ ((m : VisitRecord) → IsIn m end.run.made → m.platform ≡ i → m.fault ≡ false)
   ends : EndsAt g platforms fault
   only : IfSome fault (λ (f : ℕ × TurnFault). f.1 ≡ Long)
 
@@ -48,7 +48,7 @@ leaves plan rows platforms fault h = record {
 }
 
 -- the platform of a number has the history that was kept, and past the end there is none
-history : (platforms : List PlatformView) (y : Together) → ((i : ℕ) (v : PlatformView) → slice_get platforms i ≡ Some v → v.turns ≡ kept (y.did i)) → (i : ℕ) → i < length platforms → histories_of platforms i ≡ kept (y.did i)
+history : (platforms : List PlatformView) (y : RunState) → ((i : ℕ) (v : PlatformView) → slice_get platforms i ≡ Some v → v.turns ≡ kept (y.did i)) → (i : ℕ) → i < length platforms → histories_of platforms i ≡ kept (y.did i)
 history platforms y are i lt =
     let one = member platforms i lt in
     ap (λ (o : Option PlatformView). unwrap_or (option_map (λ (v : PlatformView). v.turns) o) []) one.1 ∙ are i one.0 one.1
@@ -72,7 +72,7 @@ module _ (g : Graph) (level : ℕ → ℕ) (rows : ℕ → List Row) (platforms 
       ⊎_elim
       (λ (lt : i < length g.platforms).
       history platforms a.y a.kept_turns i (subst (λ n. i < n) (sym a.count) lt)
-      ∙ ap (λ (y : Together). kept (y.did i)) one.0
+      ∙ ap (λ (y : RunState). kept (y.did i)) one.0
       ∙ sym (history others b.y b.kept_turns i (subst (λ n. i < n) (sym b.count) lt)))
       (λ (le : length g.platforms ≤ i).
       ap (λ (o : Option PlatformView). unwrap_or (option_map (λ (v : PlatformView). v.turns) o) []) (past platforms i (subst (λ n. n ≤ i) (sym a.count) le))
@@ -81,10 +81,10 @@ module _ (g : Graph) (level : ℕ → ℕ) (rows : ℕ → List Row) (platforms 
 
   -- a platform has a fault in both or in none
   on : (i : ℕ) (v w : PlatformView) → slice_get platforms i ≡ Some v → slice_get others i ≡ Some w → v.fault ≡ None → w.fault ≡ None
-  on i v w at there none = (b.faults i w there).1 (subst (λ ms. (m : Made) → IsIn m ms → m.platform ≡ i → m.fault ≡ false) one.1 ((a.faults i v at).0 none))
+  on i v w at there none = (b.faults i w there).1 (subst (λ ms. (m : VisitRecord) → IsIn m ms → m.platform ≡ i → m.fault ≡ false) one.1 ((a.faults i v at).0 none))
 
   back : (i : ℕ) (v w : PlatformView) → slice_get platforms i ≡ Some v → slice_get others i ≡ Some w → w.fault ≡ None → v.fault ≡ None
-  back i v w at there none = (a.faults i v at).1 (subst (λ ms. (m : Made) → IsIn m ms → m.platform ≡ i → m.fault ≡ false) (sym one.1) ((b.faults i w there).0 none))
+  back i v w at there none = (a.faults i v at).1 (subst (λ ms. (m : VisitRecord) → IsIn m ms → m.platform ≡ i → m.fault ≡ false) (sym one.1) ((b.faults i w there).0 none))
 
   in_others : (i : ℕ) (v : PlatformView) → slice_get platforms i ≡ Some v → (w : PlatformView) × (slice_get others i ≡ Some w)
   in_others i v at = member others i (subst (λ n. i < n) (a.count ∙ sym b.count) (slice_get_within platforms i v at))

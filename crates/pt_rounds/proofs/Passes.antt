@@ -10,7 +10,7 @@ use Rattle.pt_semantics.specs.Lists.{Each, IsIn}
 use Rattle.pt_semantics.specs.Platform.{State}
 use Rattle.pt_semantics.specs.Rounds.{IsQuietRound}
 use Rattle.pt_semantics.specs.Turn.{is_quiet}
-use Rattle.pt_semantics.specs.Visits.{Made}
+use Rattle.pt_semantics.specs.Visits.{VisitRecord}
 use Rattle.pt_semantics.proofs.Lookups.{Each-append, IsIn-append, IsIn-append_left, IsIn-append_right}
 use Rattle.pt_laws.proofs.Onward.{Onward, cases_same, round_onward}
 use Rattle.pt_paced_laws.proofs.PacedRuns.{run_onward}
@@ -127,7 +127,7 @@ module _ (plan : Parts) (rows : ℕ → List Row) (count c : ℕ) (olds : List P
             let so = was.still_is.0 (if_quiet e).1 in
             let before = h.is_quiet_round (if_quiet e).0 in
             record {
-              quiet = Each-append (λ (m : Made). is_quiet m.turn ≡ true) h.made (shows.made ∷ []) before.quiet (ap is_quiet shows.turn_is ∙ so.0, tt);
+              quiet = Each-append (λ (m : VisitRecord). is_quiet m.turn ≡ true) h.made (shows.made ∷ []) before.quiet (ap is_quiet shows.turn_is ∙ so.0, tt);
               closed = closed_still s.together.at h.together.at shows.together.at h.made shows.made n v.closed w.closed closed_before closes_here stays so.1 before.closed;
             }
 
@@ -181,13 +181,13 @@ module _ (plan : Parts) (rows : ℕ → List Row) (count c : ℕ) (olds : List P
             (h.faults j u (is_old platforms n v w there j u other at)))
             (cases_same j n)
 
-        fine_now : HaveNoFault (set platforms n w) → Each (λ (m : Made). m.fault ≡ false) (h.made ++ shows.made ∷ [])
+        fine_now : HaveNoFault (set platforms n w) → Each (λ (m : VisitRecord). m.fault ≡ false) (h.made ++ shows.made ∷ [])
         fine_now none =
-            Each-append (λ (m : Made). m.fault ≡ false) h.made (shows.made ∷ [])
+            Each-append (λ (m : VisitRecord). m.fault ≡ false) h.made (shows.made ∷ [])
             (h.fine (no_fault_before platforms n v w there not_faulty none))
             (shows.fault ∙ ap is_fault (none n w changed), tt)
 
-        answered_now : (j : ℕ) (u : PlatformView) → slice_get (set platforms n w) j ≡ Some u → u.fault ≡ None → (m : Made) → IsIn m (h.made ++ shows.made ∷ []) → m.platform ≡ j → m.fault ≡ false
+        answered_now : (j : ℕ) (u : PlatformView) → slice_get (set platforms n w) j ≡ Some u → u.fault ≡ None → (m : VisitRecord) → IsIn m (h.made ++ shows.made ∷ []) → m.platform ≡ j → m.fault ≡ false
         answered_now j u at none m mem home =
             ⊎_elim
             (λ (old : IsIn m h.made).
@@ -198,9 +198,9 @@ module _ (plan : Parts) (rows : ℕ → List Row) (count c : ℕ) (olds : List P
             (λ (new : IsIn m (shows.made ∷ [])).
             ⊎_elim
             (λ (e : m ≡ shows.made).
-            let here : j ≡ n = sym home ∙ ap (λ (z : Made). z.platform) e ∙ shows.platform in
+            let here : j ≡ n = sym home ∙ ap (λ (z : VisitRecord). z.platform) e ∙ shows.platform in
             let same : u ≡ w = is_new platforms n v w there j u here at in
-            ap (λ (z : Made). z.fault) e ∙ shows.fault ∙ ap is_fault (ap (λ (z : PlatformView). z.fault) (sym same) ∙ none))
+            ap (λ (z : VisitRecord). z.fault) e ∙ shows.fault ∙ ap is_fault (ap (λ (z : PlatformView). z.fault) (sym same) ∙ none))
             (λ (never : ⊥). absurd never)
             new)
             (IsIn-append m h.made (shows.made ∷ []) mem)

@@ -18,7 +18,7 @@ use Rattle.pt_semantics.specs.Platform.{State, opened}
 use Rattle.pt_semantics.specs.Ranks.{AreRanks}
 use Rattle.pt_semantics.specs.Rounds.{Follows, IsLeastNext, IsQuietRound, IsRunInRound, IsWholeRun, Round}
 use Rattle.pt_semantics.specs.Turn.{Turn, is_quiet}
-use Rattle.pt_semantics.specs.Visits.{AreFinished, Made, Together, together_at_start}
+use Rattle.pt_semantics.specs.Visits.{AreFinished, VisitRecord, RunState, run_at_start}
 use Rattle.pt_semantics.specs.Counts.{unit_firings}
 use Rattle.pt_semantics.specs.Parts.{parts}
 use Rattle.pt_semantics.specs.Wired.{IsWired}
@@ -49,7 +49,7 @@ use Rattle.pt_engine.proofs.Views.{all_finished, each_finished, finished_here, f
 use Rattle.pt_rounds.proofs.Steps.{one_round}
 
 -- facts on all platforms together, from their views
-module _ (plan : Parts) (rows : ℕ → List Row) (x : Together) (platforms : List PlatformView) (pipes : List (List Message)) (results : List (List Done)) (shown : AreShown plan rows x platforms pipes results) where
+module _ (plan : Parts) (rows : ℕ → List Row) (x : RunState) (platforms : List PlatformView) (pipes : List (List Message)) (results : List (List Done)) (shown : AreShown plan rows x platforms pipes results) where
   are : AreThere plan rows x platforms
   are = there_of plan rows x platforms pipes results shown
 
@@ -75,11 +75,11 @@ module _ (plan : Parts) (rows : ℕ → List Row) (x : Together) (platforms : Li
 
 -- before the first round
 module _ (plan : Parts) (rows : ℕ → List Row) (platforms : List PlatformView) (pipes : List (List Message)) (results : List (List Done)) (new : AreOpened plan rows platforms pipes results) where
-  shown_here : AreShown plan rows (together_at_start plan.graph rows) platforms pipes results
+  shown_here : AreShown plan rows (run_at_start plan.graph rows) platforms pipes results
   shown_here = shown_first plan rows platforms pipes results new
 
   pub some_open : NoneIsOpen (length platforms) platforms → ⊥
-  some_open closed = false≢true (all_closed plan rows (together_at_start plan.graph rows) platforms pipes results shown_here closed 0 (subst (λ n. 0 < n) new.ready.all.count new.some))
+  some_open closed = false≢true (all_closed plan rows (run_at_start plan.graph rows) platforms pipes results shown_here closed 0 (subst (λ n. 0 < n) new.ready.all.count new.some))
 
   pub stands_first : (b : ℕ) → IsLeastOf (length platforms) platforms b → IsBeforeRound plan rows 0 b platforms pipes results
   stands_first b least = record {
@@ -87,10 +87,10 @@ module _ (plan : Parts) (rows : ℕ → List Row) (platforms : List PlatformView
     fit = new.ready.fit;
     rounds = [];
     rounds_made = refl;
-    together = together_at_start plan.graph rows;
+    together = run_at_start plan.graph rows;
     run = record {
       begins = b;
-      begins_at = least_next_is plan rows (together_at_start plan.graph rows) platforms pipes results shown_here b least;
+      begins_at = least_next_is plan rows (run_at_start plan.graph rows) platforms pipes results shown_here b least;
       goes = (refl, refl);
     };
     shown = shown_here;
@@ -112,7 +112,7 @@ module _ (plan : Parts) (rows : ℕ → List Row) (count c : ℕ) (olds : List P
   are_there = there_of plan rows h.together platforms pipes results h.shown
 
   -- the end of a run, in what the platforms show
-  ended : AreFinished plan.graph h.together ⊎ (Each (λ (m : Made). m.fault ≡ false) h.made → ⊥) → (fault : Option (ℕ × TurnFault)) → EndsAt plan.graph platforms fault → IfSome fault (λ (f : ℕ × TurnFault). f.1 ≡ Long) → (fault ≡ None → AreFinished plan.graph h.together) →
+  ended : AreFinished plan.graph h.together ⊎ (Each (λ (m : VisitRecord). m.fault ≡ false) h.made → ⊥) → (fault : Option (ℕ × TurnFault)) → EndsAt plan.graph platforms fault → IfSome fault (λ (f : ℕ × TurnFault). f.1 ≡ Long) → (fault ≡ None → AreFinished plan.graph h.together) →
       ((rank : ℕ → ℕ) (xs : List ActorFiring) → AreRanks plan.graph rank → IsMeaning plan.graph rank rows xs → IsLongOn plan.graph xs fault) → IsOutcome plan (level_of plan.ranks) rows platforms fault
   ended ends fault so only done long = record {
     admitted = s.admitted;
@@ -166,7 +166,7 @@ module _ (plan : Parts) (rows : ℕ → List Row) (count c : ℕ) (olds : List P
       claims u = ap (λ (turns : List Turn). claims_of plan.graph turns u) (history plan rows h.together platforms are_there (platform_of plan.graph u.actor) (is_wired.homes u.actor))
 
       -- where its turn answered no fault a platform has none
-      none_answered : (i : ℕ) (v : PlatformView) → slice_get platforms i ≡ Some v → ((m : Made) → IsIn m h.made → m.platform ≡ i → m.fault ≡ false) → v.fault ≡ None
+      none_answered : (i : ℕ) (v : PlatformView) → slice_get platforms i ≡ Some v → ((m : VisitRecord) → IsIn m h.made → m.platform ≡ i → m.fault ≡ false) → v.fault ≡ None
       none_answered i v there fine =
           ⊎_elim
           (λ (none : v.fault ≡ None). none)
@@ -189,13 +189,13 @@ module _ (plan : Parts) (rows : ℕ → List Row) (count c : ℕ) (olds : List P
       ⊎_elim
       (λ (none : first.view.fault ≡ None). absurd (none_some fault.1 (sym none ∙ first.is)))
       (λ (long : (first.place < length olds) × IsLong h.made first.place first.view).
-      ended (inr (λ fine. false≢true (sym (Each-in (λ (m : Made). m.fault ≡ false) h.made fine long.1.turn long.1.there) ∙ long.1.answers)))
+      ended (inr (λ fine. false≢true (sym (Each-in (λ (m : VisitRecord). m.fault ≡ false) h.made fine long.1.turn long.1.there) ∙ long.1.answers)))
       (Some fault) (ends_at_first plan rows platforms h.shown.all fault first)
       (same_some fault.1 Long (sym first.is ∙ long.1.all_claims))
       (λ e. absurd (none_some fault (sym e)))
       (λ rank xs ranks meaning.
       subst (λ k. plan.graph.claims < unit_firings plan.graph k (parts plan.graph xs)) (long.1.platform ∙ number_is)
-      (Each-in (λ (m : Made). m.fault ≡ true → plan.graph.claims < unit_firings plan.graph m.platform (parts plan.graph xs)) h.made
+      (Each-in (λ (m : VisitRecord). m.fault ≡ true → plan.graph.claims < unit_firings plan.graph m.platform (parts plan.graph xs)) h.made
       (long_exactly plan.graph (level_of plan.ranks) rank rows (offset_of plan.offsets) s.rounds c (length plan.graph.platforms) h.made h.together xs is_wired s.admitted.levels ranks s.fit s.admitted.feasible s.admitted.offsets.units in_round meaning).0
       long.1.turn long.1.there long.1.answers)))
       (h.faults first.place first.view first.at)
@@ -209,7 +209,7 @@ module _ (plan : Parts) (rows : ℕ → List Row) (count c : ℕ) (olds : List P
   moved : quiet ≡ false → IsQuietRound s.together h.made h.together → ⊥
   moved noisy calm =
       ⊎_elim
-      (λ (one : (m : Made) × IsIn m h.made × (is_quiet m.turn ≡ false)). false≢true (sym one.2 ∙ Each-in (λ (m : Made). is_quiet m.turn ≡ true) h.made calm.quiet one.0 one.1))
+      (λ (one : (m : VisitRecord) × IsIn m h.made × (is_quiet m.turn ≡ false)). false≢true (sym one.2 ∙ Each-in (λ (m : VisitRecord). is_quiet m.turn ≡ true) h.made calm.quiet one.0 one.1))
       (λ (one : (j : ℕ) × (j < length olds) × ((h.together.at j).closed ≡ (s.together.at j).closed → ⊥)). one.2 (calm.closed one.0))
       (h.no_quiet_round noisy)
 
@@ -223,7 +223,7 @@ module _ (plan : Parts) (rows : ℕ → List Row) (count c : ℕ) (olds : List P
     run = record {
       begins = s.run.begins;
       begins_at = s.run.begins_at;
-      goes = one_round plan.graph (level_of plan.ranks) s.rounds s.run.begins c b (together_at_start plan.graph rows) s.together h.together h.made s.run.goes whole_round (h.fine none)
+      goes = one_round plan.graph (level_of plan.ranks) s.rounds s.run.begins c b (run_at_start plan.graph rows) s.together h.together h.made s.run.goes whole_round (h.fine none)
           (λ done. going (each_finished plan rows h.together platforms are_there done)) follows;
     };
     shown = h.shown;

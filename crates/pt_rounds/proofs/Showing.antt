@@ -8,7 +8,7 @@ use Rattle.pt_semantics.specs.Platform.{State}
 use Rattle.pt_semantics.specs.Rounds.{Makes}
 use Rattle.pt_semantics.specs.Rows.{FitRows}
 use Rattle.pt_semantics.specs.Turn.{Turn}
-use Rattle.pt_semantics.specs.Visits.{Made, Together}
+use Rattle.pt_semantics.specs.Visits.{VisitRecord, RunState}
 use Rattle.pt_semantics.proofs.LawfulEdges.{wired}
 use Rattle.pt_laws.proofs.Onward.{Onward, makes_onward}
 use Rattle.pt_causality.specs.Ranked.{level_of}
@@ -24,9 +24,9 @@ use Rattle.pt_engine.proofs.Showing.{all_on_time, may_come as comes, visit_shows
 use Rattle.pt_engine.proofs.Passing.{raised_same}
 
 -- a visit at reading c of a round, and what the platforms, pipes and results represent after it
-pub record Shows (plan : Parts) (rows : ℕ → List Row) (c i : ℕ) (x : Together) (w : PlatformView) (turn : Turn) (platforms : List PlatformView) (piped : List (List Message)) (results : List (List Done)) : Type 0 where
-  pub made : Made
-  pub together : Together
+pub record Shows (plan : Parts) (rows : ℕ → List Row) (c i : ℕ) (x : RunState) (w : PlatformView) (turn : Turn) (platforms : List PlatformView) (piped : List (List Message)) (results : List (List Done)) : Type 0 where
+  pub made : VisitRecord
+  pub together : RunState
   pub platform : made.platform ≡ i
   pub turn_is : made.turn ≡ turn
   pub late : made.late ≡ false
@@ -36,16 +36,16 @@ pub record Shows (plan : Parts) (rows : ℕ → List Row) (c i : ℕ) (x : Toget
   pub onward : Onward plan.graph (level_of plan.ranks) rows (offset_of plan.offsets) c together
   pub shown : AreShown plan rows together platforms piped results
 
-so_far : (plan : Parts) (rows : ℕ → List Row) (c : ℕ) (x : Together) → IsAdmitted plan → FitRows plan.graph rows → Onward plan.graph (level_of plan.ranks) rows (offset_of plan.offsets) c x → (i : ℕ) → i < length plan.graph.platforms → OnTimeSoFar plan.graph (level_of plan.ranks) rows i x
+so_far : (plan : Parts) (rows : ℕ → List Row) (c : ℕ) (x : RunState) → IsAdmitted plan → FitRows plan.graph rows → Onward plan.graph (level_of plan.ranks) rows (offset_of plan.offsets) c x → (i : ℕ) → i < length plan.graph.platforms → OnTimeSoFar plan.graph (level_of plan.ranks) rows i x
 so_far plan rows c x admitted fits onward i lt = all_on_time plan.graph (level_of plan.ranks) rows x (wired plan.graph admitted.lawful) admitted.levels fits onward.legal onward.linked i lt (onward.later i lt).foreign
 
 -- a platform may take the messages that are on their way to it
-pub may_come : (plan : Parts) (rows : ℕ → List Row) (c : ℕ) (x : Together) (platforms : List PlatformView) (pipes : List (List Message)) (results : List (List Done)) → IsAdmitted plan → FitRows plan.graph rows → Onward plan.graph (level_of plan.ranks) rows (offset_of plan.offsets) c x → AreShown plan rows x platforms pipes results → (i : ℕ) (v : PlatformView) → slice_get platforms i ≡ Some v → MayCome v.plan.graph (level_at v) v.number (state_at v) (arriving v.plan.graph v.number 0 pipes)
+pub may_come : (plan : Parts) (rows : ℕ → List Row) (c : ℕ) (x : RunState) (platforms : List PlatformView) (pipes : List (List Message)) (results : List (List Done)) → IsAdmitted plan → FitRows plan.graph rows → Onward plan.graph (level_of plan.ranks) rows (offset_of plan.offsets) c x → AreShown plan rows x platforms pipes results → (i : ℕ) (v : PlatformView) → slice_get platforms i ≡ Some v → MayCome v.plan.graph (level_at v) v.number (state_at v) (arriving v.plan.graph v.number 0 pipes)
 may_come plan rows c x platforms pipes results admitted fits onward shown i v there =
     comes plan rows x platforms pipes results admitted fits shown i v there (so_far plan rows c x admitted fits onward i (subst (λ n. i < n) shown.all.count (slice_get_within platforms i v there)))
 
 -- a visit of a platform is a turn of the round
-pub visit_shows : (plan : Parts) (rows : ℕ → List Row) (c : ℕ) (x : Together) (platforms : List PlatformView) (pipes : List (List Message)) (results : List (List Done)) → IsAdmitted plan → FitRows plan.graph rows → Onward plan.graph (level_of plan.ranks) rows (offset_of plan.offsets) c x → AreShown plan rows x platforms pipes results → (i : ℕ) (v w : PlatformView) (dones next : List Done) (piped : List (List Message)) → slice_get platforms i ≡ Some v → slice_get results i ≡ Some dones → c < 2 ^ 64 →
+pub visit_shows : (plan : Parts) (rows : ℕ → List Row) (c : ℕ) (x : RunState) (platforms : List PlatformView) (pipes : List (List Message)) (results : List (List Done)) → IsAdmitted plan → FitRows plan.graph rows → Onward plan.graph (level_of plan.ranks) rows (offset_of plan.offsets) c x → AreShown plan rows x platforms pipes results → (i : ℕ) (v w : PlatformView) (dones next : List Done) (piped : List (List Message)) → slice_get platforms i ≡ Some v → slice_get results i ≡ Some dones → c < 2 ^ 64 →
     (visited : IsVisited 64 c dones next v w pipes piped) → Shows plan rows c i x w visited.turn (set platforms i w) piped (set results i next)
 visit_shows plan rows c x platforms pipes results admitted fits onward shown i v w dones next piped there mine small visited =
     let lt : i < length plan.graph.platforms = subst (λ n. i < n) shown.all.count (slice_get_within platforms i v there) in

@@ -13,7 +13,7 @@ use Rattle.pt_semantics.specs.Platform.{opened}
 use Rattle.pt_semantics.specs.Ranks.{AreRanks}
 use Rattle.pt_semantics.specs.Rounds.{IsWholeRun}
 use Rattle.pt_semantics.specs.Rows.{FitRows}
-use Rattle.pt_semantics.specs.Visits.{Made, Together}
+use Rattle.pt_semantics.specs.Visits.{VisitRecord, RunState}
 use Rattle.pt_paced_laws.specs.Schedule.{AreAllClaimed, AreClaimedAsMeant, AreMissedAsMeant, IsOnSchedule, SendsWithinSlack}
 use Rattle.pt_causality.specs.Ranked.{rank_of}
 use Rattle.pt_offsets.specs.Plans.{IsAdmitted, Parts}
@@ -26,11 +26,11 @@ use Rattle.pt_engine.specs.Asked.{EndsAt}
 -- the platforms are as a whole paced run leaves them: their recorded turns and states are those of its rounds, and a platform
 -- has a fault exactly if one of its turns in the last round had
 pub record IsAfter (plan : Parts) (rows : ℕ → List Row) (level : ℕ → ℕ) (platforms : List PlatformView) : Type 0 where
-  pub together : Together
+  pub together : RunState
   pub run : IsWholeRun plan.graph level rows together
   pub kept_turns : (i : ℕ) (v : PlatformView) → slice_get platforms i ≡ Some v → v.turns ≡ kept (together.did i)
   pub states : (i : ℕ) (v : PlatformView) → slice_get platforms i ≡ Some v → together.at i ≡ state_at v
-  pub faults : (i : ℕ) (v : PlatformView) → slice_get platforms i ≡ Some v → (v.fault ≡ None) ↔ ((m : Made) → IsIn m run.made → m.platform ≡ i → m.fault ≡ false)
+  pub faults : (i : ℕ) (v : PlatformView) → slice_get platforms i ≡ Some v → (v.fault ≡ None) ↔ ((m : VisitRecord) → IsIn m run.made → m.platform ≡ i → m.fault ≡ false)
 
 -- the meaning has more firings of units on the platform with the fault than it may claim; or, without a fault, on no platform
 abbrev pub IsLongOn : Graph → List ActorFiring → Option (ℕ × TurnFault) → Type 0

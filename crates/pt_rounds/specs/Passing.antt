@@ -8,7 +8,7 @@ use Rattle.pt_semantics.specs.Lists.{Each, IsIn}
 use Rattle.pt_semantics.specs.Rounds.{IsPacedRun, IsQuietRound, Round}
 use Rattle.pt_semantics.specs.Rows.{FitRows}
 use Rattle.pt_semantics.specs.Turn.{is_quiet}
-use Rattle.pt_semantics.specs.Visits.{Made, Together}
+use Rattle.pt_semantics.specs.Visits.{VisitRecord, RunState}
 use Rattle.pt_offsets.specs.Plans.{IsAdmitted, Parts}
 use Rattle.pt_turn.specs.declared.fault.TurnFault.TheVariants.{Long}
 use Rattle.pt_turn.specs.Platforms.{PlatformView}
@@ -25,30 +25,30 @@ pub record WasVisitedInRound (r : ℕ) (dones results : List Done) (old new : Pl
 pub record IsBeforeRound (plan : Parts) (rows : ℕ → List Row) (count c : ℕ) (platforms : List PlatformView) (pipes : List (List Message)) (results : List (List Done)) : Type 0 where
   pub admitted : IsAdmitted plan
   pub fit : FitRows plan.graph rows
-  pub rounds : List (List Made)
+  pub rounds : List (List VisitRecord)
   pub rounds_made : length rounds ≡ count
-  pub together : Together
+  pub together : RunState
   pub run : IsPacedRun plan.graph (level_of plan.ranks) rows rounds c together
   pub shown : AreShown plan rows together platforms pipes results
   pub no_fault : HaveNoFault platforms
 
 -- platform i has the fault that it made all its claims, and its turn in this round returned it
-pub record IsLong (made : List Made) (i : ℕ) (v : PlatformView) : Type 0 where
+pub record IsLong (made : List VisitRecord) (i : ℕ) (v : PlatformView) : Type 0 where
   pub all_claims : v.fault ≡ Some Long
-  pub turn : Made
+  pub turn : VisitRecord
   pub there : IsIn turn made
   pub platform : turn.platform ≡ i
   pub answers : turn.fault ≡ true
 
 -- the first n platforms are done in a round that began at `before`
-pub record HavePassed (plan : Parts) (rows : ℕ → List Row) (c : ℕ) (before : Together) (n : ℕ) (platforms : List PlatformView) (pipes : List (List Message)) (results : List (List Done)) (quiet : Bool) : Type 0 where
-  pub made : List Made
-  pub together : Together
+pub record HavePassed (plan : Parts) (rows : ℕ → List Row) (c : ℕ) (before : RunState) (n : ℕ) (platforms : List PlatformView) (pipes : List (List Message)) (results : List (List Done)) (quiet : Bool) : Type 0 where
+  pub made : List VisitRecord
+  pub together : RunState
   pub round : Round plan.graph (level_of plan.ranks) c n 0 before made together
   pub shown : AreShown plan rows together platforms pipes results
   pub rest_stays : (j : ℕ) → n ≤ j → together.at j ≡ before.at j
   pub is_quiet_round : quiet ≡ true → IsQuietRound before made together
-  pub no_quiet_round : quiet ≡ false → ((m : Made) × IsIn m made × (is_quiet m.turn ≡ false)) ⊎ ((j : ℕ) × (j < n) × ((together.at j).closed ≡ (before.at j).closed → ⊥))
+  pub no_quiet_round : quiet ≡ false → ((m : VisitRecord) × IsIn m made × (is_quiet m.turn ≡ false)) ⊎ ((j : ℕ) × (j < n) × ((together.at j).closed ≡ (before.at j).closed → ⊥))
   pub faults : (j : ℕ) (v : PlatformView) → slice_get platforms j ≡ Some v → (v.fault ≡ None) ⊎ ((j < n) × IsLong made j v)
-  pub fine : HaveNoFault platforms → Each (λ (m : Made). m.fault ≡ false) made
-  pub answered : (j : ℕ) (v : PlatformView) → slice_get platforms j ≡ Some v → v.fault ≡ None → (m : Made) → IsIn m made → m.platform ≡ j → m.fault ≡ false
+  pub fine : HaveNoFault platforms → Each (λ (m : VisitRecord). m.fault ≡ false) made
+  pub answered : (j : ℕ) (v : PlatformView) → slice_get platforms j ≡ Some v → v.fault ≡ None → (m : VisitRecord) → IsIn m made → m.platform ≡ j → m.fault ≡ false

@@ -22,7 +22,8 @@ pub fn fault_of(platforms: &[Platform], faulty: bool) -> Option<(u32, TurnFault)
 
 /// The least next reading of the platforms that are not closed, in microseconds; `None` if all are closed.
 pub fn least_next(platforms: &[Platform]) -> Option<u64>
-    ensures { MatchOption result (NoneIsOpen (length platforms.now) platforms.now) (IsLeastOf (length platforms.now) platforms.now) }
+    ensures { MatchOption result (NoneIsOpen (length platforms.now) platforms.now)
+        (IsLeastOf (length platforms.now) platforms.now) }
 {
     let mut least = None;
     for i in 0..platforms.len() {

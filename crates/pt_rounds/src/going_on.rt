@@ -32,8 +32,10 @@ pub fn go_on(
     blocks: &Blocks,
     begins: u64,
 ) -> Result<Option<(u32, TurnFault)>, Memory>
-    requires begun { (plan : Parts) × (rows : ℕ → List Row) × IsBeforeRound plan rows 0 begins platforms.old pipes.old (result_lists results.old) }
-    ensures outcome { IfOk result (λ fault. (plan : Parts) (rows : ℕ → List Row) → IsBeforeRound plan rows 0 begins platforms.old pipes.old (result_lists results.old) →
+    requires begun { (plan : Parts) × (rows : ℕ → List Row)
+        × IsBeforeRound plan rows 0 begins platforms.old pipes.old (result_lists results.old) }
+    ensures outcome { IfOk result (λ fault. (plan : Parts) (rows : ℕ → List Row) →
+        IsBeforeRound plan rows 0 begins platforms.old pipes.old (result_lists results.old) →
         IsOutcome plan (level_of plan.ranks) rows platforms.new fault) }
 {
     let mut reading = begins;

@@ -33,10 +33,13 @@ fn visit_one(
     requires no_fault { platform.old.fault ≡ None }
     requires links { length pipes.old ≡ length platform.old.plan.graph.links }
     requires done { AreDone platform.old.plan.graph results.old.items }
-    requires taken { MayCome platform.old.plan.graph (level_at platform.old) platform.old.number (state_at platform.old)
+    requires taken { MayCome platform.old.plan.graph (level_at platform.old) platform.old.number
+        (state_at platform.old)
         (arriving platform.old.plan.graph platform.old.number 0 pipes.old) }
     requires none { under_way.old ≡ false → list_all is_empty pipes.old ≡ true }
-    ensures visited { IfOk result (λ still. WasVisitedInRound reading results.old.items results.new.items platform.old platform.new pipes.old pipes.new still) }
+    ensures visited { IfOk result (λ still.
+        WasVisitedInRound reading results.old.items results.new.items platform.old platform.new
+        pipes.old pipes.new still) }
     ensures none { OnOk result (under_way.new ≡ false → list_all is_empty pipes.new ≡ true) }
 {
     let closed = platform.closed();
@@ -73,10 +76,15 @@ pub fn pass(
     under_way: &mut bool,
     faulty: &mut bool,
 ) -> Result<bool, Memory>
-    requires begun { (plan : Parts) × (rows : ℕ → List Row) × (count : ℕ) × IsBeforeRound plan rows count reading platforms.old pipes.old (result_lists results.old) }
+    requires begun { (plan : Parts) × (rows : ℕ → List Row) × (count : ℕ)
+        × IsBeforeRound plan rows count reading platforms.old pipes.old (result_lists results.old) }
     requires none { under_way.old ≡ false → list_all is_empty pipes.old ≡ true }
-    ensures passed { IfOk result (λ quiet. (plan : Parts) (rows : ℕ → List Row) (count : ℕ) (s : IsBeforeRound plan rows count reading platforms.old pipes.old (result_lists results.old)) →
-        HavePassed plan rows reading s.together (length platforms.old) platforms.new pipes.new (result_lists results.new) quiet) }
+    ensures passed { IfOk result (λ quiet.
+        (plan : Parts) (rows : ℕ → List Row) (count : ℕ)
+        (s : IsBeforeRound plan rows count reading platforms.old pipes.old
+        (result_lists results.old)) →
+        HavePassed plan rows reading s.together (length platforms.old) platforms.new pipes.new
+        (result_lists results.new) quiet) }
     ensures none { OnOk result (under_way.new ≡ false → list_all is_empty pipes.new ≡ true) }
     ensures faults { OnOk result (faulty.new ≡ false → HaveNoFault platforms.new) }
 {

@@ -32,7 +32,9 @@ pub fn paced(
 ) -> Result<Rounds, Memory>
     requires some { 0 < length platforms.items }
     requires ready { IsReady platforms.items }
-    ensures outcome { IfOk result (λ rounds. (plan : Parts) (rows : ℕ → List Row) → AreReady plan rows platforms.items → IsOutcome plan (level_of plan.ranks) rows rounds.platforms.items rounds.fault) }
+    ensures outcome { IfOk result (λ rounds. (plan : Parts) (rows : ℕ → List Row) →
+        AreReady plan rows platforms.items →
+        IsOutcome plan (level_of plan.ranks) rows rounds.platforms.items rounds.fault) }
 {
     let mut platforms = platforms;
     let links = platforms[0].plan().graph().links.as_slice().len();

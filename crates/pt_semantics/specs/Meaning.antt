@@ -46,7 +46,7 @@ going g along leaves t outputs a p u = when (nat_lt u.time (suc g.until)) (first
 abbrev pub added : Values → Values → Values
 added old new a p t = or_else (old a p t) (new a p t)
 
--- the global list: pending events, and a state for each actor
+-- what the global list holds: pending values, and a state for each actor
 pub record World : Type 0 where
   pub waits : Values
   pub states : ℕ → ℤ

@@ -16,17 +16,17 @@ use Rattle.pt_semantics.specs.Turn.{IsLast, IsTurn, Turn}
 use Rattle.pt_semantics.specs.Linked.{IsFinished}
 
 -- all platforms together: their states, their turns one by one, and the messages on each link that were sent and not taken
-pub record Together : Type 0 where
+pub record RunState : Type 0 where
   pub at : ℕ → State
   pub did : ℕ → List Turn
   pub on_way : ℕ → List Message
 
 -- the platforms before the first turn
-abbrev pub together_at_start : Graph → (ℕ → List Row) → Together
-together_at_start g rows = record { at = λ i. opened g i rows; did = λ i. []; on_way = λ l. [] }
+abbrev pub run_at_start : Graph → (ℕ → List Row) → RunState
+run_at_start g rows = record { at = λ i. opened g i rows; did = λ i. []; on_way = λ l. [] }
 
 -- all platforms are finished
-abbrev pub AreFinished : Graph → Together → Type 0
+abbrev pub AreFinished : Graph → RunState → Type 0
 AreFinished g x = (i : ℕ) → i < length g.platforms → IsFinished g i (x.at i)
 
 -- whether this link leads to platform i
@@ -35,7 +35,7 @@ leads_to g i None = false
 leads_to g i (Some link) = platform_of g link.to == i
 
 -- a turn of a platform, whether it took a late message, and whether the platform has a fault after it
-pub record Made : Type 0 where
+pub record VisitRecord : Type 0 where
   pub platform : ℕ
   pub turn : Turn
   pub late : Bool
@@ -53,7 +53,7 @@ LinkByLink (m ∷ ms) = Each (λ (n : OnLink). m.link ≤ n.link) ms × LinkByLi
 
 -- a visit of a platform at reading r: one turn that posts all its open claims, takes all messages on their way to it and
 -- claims at most `most` units. Then it sends the first `room l` messages of each outbox l, or all
-pub record IsVisit (g : Graph) (level : ℕ → ℕ) (most : ℕ) (room : ℕ → ℕ) (r : ℕ) (x : Together) (m : Made) (y : Together) : Type 0 where
+pub record IsVisit (g : Graph) (level : ℕ → ℕ) (most : ℕ) (room : ℕ → ℕ) (r : ℕ) (x : RunState) (m : VisitRecord) (y : RunState) : Type 0 where
   pub fits : r < 2 ^ 64
   pub once : m.turn.count ≡ 1
   pub first : m.turn.first ≡ r

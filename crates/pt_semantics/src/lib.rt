@@ -10,6 +10,7 @@
 //! - When a platform may act: `Paths`, `Bounds`, `Offsets`, `Platform`, `Safe`; the turn in five parts, `Posting`,
 //!   `Entering`, `Orderly`, `Taking`, `Claiming`, `Closing`, `Turn`; and `Candidates`, all claims of a turn at once.
 //! - Histories: `History`, `Kept`, `Readings`, `Linked`, `Settled`, `Floor`, `Paced`, `Missed`.
+//! - True time: `TrueTime`, `Arrivals`, `RecordedTimes`.
 //! - Engines: `Visits`, `Rounds`, `FixedOrder`, `Counts`.
 #![tactic(auto)]
 

@@ -13,7 +13,7 @@ use Rattle.pt_sensors.specs.declared.recorded_fault.LateRows.{LateRows}
 use Rattle.pt_sensors.specs.declared.recorded_fault.RecordedFault.{RecordedFault}
 use Rattle.pt_sensors.specs.declared.recorded_fault.RecordedFault.TheVariants as fault
 use Rattle.pt_sensors.specs.Asked.{Asks, AsksBy, AsksOrNot, AsksFiles, AsksUpTo, ReadFails, file_of, files_before, sensor_files}
-use Rattle.pt_io.specs.Calls.{Contents, Reading}
+use Rattle.pt_io.specs.Calls.{Contents, SourceCall}
 use Rattle.pt_sensors.specs.Faults.{fault_of_sensor}
 use Rattle.pt_sensors.specs.Files.{CauseOfActor}
 
@@ -92,7 +92,7 @@ pub asks_by_files : (g : Graph) (n : ℕ) (f : RecordedFault) (first asked now :
 asks_by_files g n f first asked now lt was by = asks_at_most g n first asked now lt was (asks_by_or_not f asked now (file_of (kind_of g n)) by)
 
 -- where an actor gave no rows, after the actors before it gave theirs
-pub asks_up_to : (l : LateRows) (contents : Contents) (g : Graph) (n : ℕ) (f : RecordedFault) (r : Reading) (first asked now : Option (List (List ℕ))) → n < length g.actors → Asks first asked (files_before g n)
+pub asks_up_to : (l : LateRows) (contents : Contents) (g : Graph) (n : ℕ) (f : RecordedFault) (r : SourceCall) (first asked now : Option (List (List ℕ))) → n < length g.actors → Asks first asked (files_before g n)
     → CauseOfActor l f contents g n r → AsksBy f asked now (file_of (kind_of g n)) → AsksUpTo f g first now
 asks_up_to l contents g n fault.Memory r first asked now lt was cause by = asks_at_most g n first asked now lt was by
 asks_up_to l contents g n (fault.Read named) r first asked now lt was cause by = subst (λ a. Asks first now (files_before g (a + 1))) (sym cause.0) (asks_files g n first asked now lt was by)

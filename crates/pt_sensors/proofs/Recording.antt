@@ -21,7 +21,7 @@ use Rattle.pt_sensors.specs.declared.recorded_fault.LateRows.TheVariants as late
 use Rattle.pt_sensors.specs.declared.recorded_fault.RecordedFault.{RecordedFault}
 use Rattle.pt_sensors.specs.declared.recorded_fault.RecordedFault.TheVariants as fault
 use Rattle.pt_sensors.specs.Asked.{Asks, ReadFails, files_before}
-use Rattle.pt_io.specs.Calls.{Contents, Reading}
+use Rattle.pt_io.specs.Calls.{Contents, SourceCall}
 use Rattle.pt_sensors.specs.Recorded.{AllPass, AreRows, CauseOfRows, HaveRows, RowsPass, RowsOfKind, SensorFails, SensorLate, SensorUnread}
 use Rattle.pt_sensors.specs.Files.{CauseOfActor, CauseOfFile, IsSensorWith}
 use Rattle.pt_sensors.specs.Faults.{fault_of_sensor}
@@ -127,7 +127,7 @@ pub fit_rows : (contents : Contents) (g : Graph) (xs : List SensorRows) (n : ℕ
 fit_rows contents g xs n are whole = all_fit contents g (rows_for xs) (λ a. (all_rows late.Refused contents g xs n are whole a).kind) (λ a. (all_rows late.Refused contents g xs n are whole a).passes) (λ a. (all_rows late.Refused contents g xs n are whole a).order)
 
 -- a fault of a sensor's file
-pub rows_fail : (contents : Contents) (actor : ℕ) (file : List ℕ) (f : RowFault) (r : Reading) → (f ≢ row.Memory → IfSome (contents file) (λ bytes. rows_of bytes ≡ Err f))
+pub rows_fail : (contents : Contents) (actor : ℕ) (file : List ℕ) (f : RowFault) (r : SourceCall) → (f ≢ row.Memory → IfSome (contents file) (λ bytes. rows_of bytes ≡ Err f))
     → CauseOfFile actor (fault_of_sensor actor f) contents file r
 rows_fail contents actor file row.Memory r h = tt
 rows_fail contents actor file row.TooLong r h = (refl, h (λ e. absurd cc))
@@ -140,7 +140,7 @@ rows_fail contents actor file (row.SeenEarly n) r h = (refl, h (λ e. absurd cc)
 rows_fail contents actor file row.TooManyRows r h = (refl, h (λ e. absurd cc))
 
 -- the file's fault is the actor's
-pub file_fails : (l : LateRows) (contents : Contents) (g : Graph) (actor : ℕ) (file : List ℕ) (bound : ℕ) (f : RecordedFault) (r : Reading) → kind_of g actor ≡ Sensor file bound → CauseOfFile actor f contents file r → CauseOfActor l f contents g actor r
+pub file_fails : (l : LateRows) (contents : Contents) (g : Graph) (actor : ℕ) (file : List ℕ) (bound : ℕ) (f : RecordedFault) (r : SourceCall) → kind_of g actor ≡ Sensor file bound → CauseOfFile actor f contents file r → CauseOfActor l f contents g actor r
 file_fails l contents g actor file bound fault.Memory r kind h = tt
 file_fails l contents g actor file bound (fault.Read named) r kind h = (h.0, (file, bound, kind, h.1))
 file_fails l contents g actor file bound (fault.Sensor named f) r kind h = (h.0, (file, bound, kind, h.1))
@@ -152,10 +152,10 @@ have_rows l contents g xs n are a lt = (rows_for xs a, (are.rows a lt).kind, (ar
 
 -- why one actor gave no rows, after the actors before it gave theirs
 module _ (l : LateRows) (contents : Contents) (g : Graph) (xs : List SensorRows) (n : ℕ) (first asked now : Option (List (List ℕ))) (start before last : ℕ) where
-  abbrev late_reading : Reading
+  abbrev late_reading : SourceCall
   late_reading = record { asked_before = asked; asked_now = now; before = before; now = last }
 
-  abbrev whole_reading : Reading
+  abbrev whole_reading : SourceCall
   whole_reading = record { asked_before = first; asked_now = now; before = start; now = last }
 
   unread : AreFirstRows l contents g xs n → Asks first asked (files_before g n) → start ≤ before → IsSensorWith g n (λ file bound. ReadFails [] file late_reading) → SensorUnread l contents g n [] whole_reading

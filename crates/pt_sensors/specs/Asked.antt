@@ -1,6 +1,6 @@
 -- The files that a source was asked for.
 use Rattle.std.specs.Prelude.{◌≡◌, ◌⊎◌, ℕ, ◌+◌, List, [], ◌∷◌, ◌++◌, Option, Some, IfSome, take}
-use Rattle.pt_io.specs.Calls.{Reading}
+use Rattle.pt_io.specs.Calls.{SourceCall}
 use Rattle.pt_io.specs.Causes.{Rose}
 use Rattle.pt_types.specs.declared.graph.Graph.{Graph}
 use Rattle.pt_types.specs.declared.graph.Actor.{Actor}
@@ -23,7 +23,7 @@ AsksBy fault.Memory before now names = AsksOrNot before now names
 AsksBy _ before now names = Asks before now names
 
 -- a read of this name failed: it was asked for last, after the others, and the source's count of faults rose
-pub record ReadFails (others : List (List ℕ)) (name : List ℕ) (r : Reading) : Type 0 where
+pub record ReadFails (others : List (List ℕ)) (name : List ℕ) (r : SourceCall) : Type 0 where
   pub asked : Asks r.asked_before r.asked_now (others ++ name ∷ [])
   pub rose : Rose r.before r.now
 

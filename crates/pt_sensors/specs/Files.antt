@@ -10,11 +10,11 @@ use Rattle.pt_sensors.specs.declared.recorded_fault.LateRows.TheVariants as late
 use Rattle.pt_sensors.specs.declared.recorded_fault.RecordedFault.{RecordedFault}
 use Rattle.pt_sensors.specs.declared.recorded_fault.RecordedFault.TheVariants as fault
 use Rattle.pt_sensors.specs.Asked.{ReadFails}
-use Rattle.pt_io.specs.Calls.{Contents, Reading}
+use Rattle.pt_io.specs.Calls.{Contents, SourceCall}
 use Rattle.pt_sensors.specs.Recorded.{IsLateRow}
 
 -- why the file with this name gave no rows
-abbrev pub CauseOfFile : ℕ → RecordedFault → Contents → List ℕ → Reading → Type 0
+abbrev pub CauseOfFile : ℕ → RecordedFault → Contents → List ℕ → SourceCall → Type 0
 CauseOfFile actor fault.Memory contents file r = Unit {0}
 CauseOfFile actor (fault.Read named) contents file r = (named ≡ actor) × ReadFails [] file r
 CauseOfFile actor (fault.Sensor named f) contents file r = (named ≡ actor) × IfSome (contents file) (λ bytes. rows_of bytes ≡ Err f)
@@ -30,7 +30,7 @@ abbrev pub IsSensorWith : Graph → ℕ → (List ℕ → ℕ → Type 0) → Ty
 IsSensorWith g actor Fact = (file : List ℕ) × (bound : ℕ) × (kind_of g actor ≡ Sensor file bound) × Fact file bound
 
 -- why an actor gave no rows
-abbrev pub CauseOfActor : LateRows → RecordedFault → Contents → Graph → ℕ → Reading → Type 0
+abbrev pub CauseOfActor : LateRows → RecordedFault → Contents → Graph → ℕ → SourceCall → Type 0
 CauseOfActor l fault.Memory contents g actor r = Unit {0}
 CauseOfActor l (fault.Read named) contents g actor r = (named ≡ actor) × IsSensorWith g actor (λ file bound. ReadFails [] file r)
 CauseOfActor l (fault.Sensor named f) contents g actor r = (named ≡ actor) × IsSensorWith g actor (λ file bound. IfSome (contents file) (λ bytes. rows_of bytes ≡ Err f))

@@ -13,7 +13,7 @@ use Rattle.pt_sensors.specs.declared.recorded_fault.LateRows.TheVariants as late
 use Rattle.pt_sensors.specs.declared.recorded_fault.RecordedFault.{RecordedFault}
 use Rattle.pt_sensors.specs.declared.recorded_fault.RecordedFault.TheVariants as fault
 use Rattle.pt_sensors.specs.Asked.{ReadFails, files_before}
-use Rattle.pt_io.specs.Calls.{Contents, Reading}
+use Rattle.pt_io.specs.Calls.{Contents, SourceCall}
 
 -- a sensor has the rows of its file, and other kinds have none
 abbrev pub RowsOfKind : Contents → Kind → List Row → Type 0
@@ -51,7 +51,7 @@ pub record SensorFails (l : LateRows) (contents : Contents) (g : Graph) (actor :
   pub fails : IfSome (contents file) (λ bytes. rows_of bytes ≡ Err f)
 
 -- the actor is the first that gives no rows: a sensor whose file could not be read
-pub record SensorUnread (l : LateRows) (contents : Contents) (g : Graph) (actor : ℕ) (others : List (List ℕ)) (r : Reading) : Type 0 where
+pub record SensorUnread (l : LateRows) (contents : Contents) (g : Graph) (actor : ℕ) (others : List (List ℕ)) (r : SourceCall) : Type 0 where
   pub earlier : HaveRows l contents g actor
   pub file : List ℕ
   pub bound : ℕ
@@ -78,7 +78,7 @@ pub record SensorLate (contents : Contents) (g : Graph) (actor row seen limit : 
   pub is_late : IsLateRow rows g.until bound row seen limit
 
 -- why the sensors of a graph gave no rows; the names in `others` were asked for before their files
-abbrev pub CauseOfRows : LateRows → RecordedFault → Contents → Graph → List (List ℕ) → Reading → Type 0
+abbrev pub CauseOfRows : LateRows → RecordedFault → Contents → Graph → List (List ℕ) → SourceCall → Type 0
 CauseOfRows l fault.Memory contents g others r = Unit {0}
 CauseOfRows l (fault.Read actor) contents g others r = SensorUnread l contents g actor others r
 CauseOfRows l (fault.Sensor actor f) contents g others r = SensorFails l contents g actor f

@@ -24,14 +24,17 @@ pub fn rows_of_file<S: Source>(
     actor: u32,
     name: &str,
 ) -> Result<List<Row>, RecordedFault>
-    ensures rows { IfOk result (λ rows. IfSome (S.contents source.old name.now) (λ bytes. rows_of bytes ≡ Ok rows)) }
+    ensures rows { IfOk result (λ rows.
+        IfSome (S.contents source.old name.now) (λ bytes. rows_of bytes ≡ Ok rows)) }
     ensures order { IfOk result RowsAreInOrder }
     ensures fault { IfErr result (λ f. CauseOfFile actor f (S.contents source.old) name.now
         (reading S.Source source.old source.new)) }
     ensures keeps { S.contents source.new ≡ S.contents source.old }
     ensures grows { S.faults source.old ≤ S.faults source.new }
-    ensures asks { IfOk result (λ rows. Asks (S.asked source.old) (S.asked source.new) (name.now ∷ [])) }
-    ensures asks_by { IfErr result (λ f. AsksBy f (S.asked source.old) (S.asked source.new) (name.now ∷ [])) }
+    ensures asks { IfOk result (λ rows.
+        Asks (S.asked source.old) (S.asked source.new) (name.now ∷ [])) }
+    ensures asks_by { IfErr result (λ f.
+        AsksBy f (S.asked source.old) (S.asked source.new) (name.now ∷ [])) }
 {
     let bytes = match source.fetch(alloc, name, MOST_SENSOR_BYTES) {
         Ok(bytes) => bytes,
@@ -78,7 +81,8 @@ pub fn judged(
 ) -> Result<(), RecordedFault>
     requires { length rows.now ≤ 100000 }
     ensures passes { OnOk result (late ≡ Refused → late_row bound until rows.now ≡ None) }
-    ensures fault { IfErr result (λ f. (late ≡ Refused) × IsLateFault f actor rows.now bound until) }
+    ensures fault { IfErr result (λ f. (late ≡ Refused)
+        × IsLateFault f actor rows.now bound until) }
 {
     match late {
         LateRows::Taken => Ok(()),

@@ -2,7 +2,7 @@
 //!
 //! A sensor file has comma-separated values, in the columns `time`, `seen` and `value`. The rows
 //! of a text, or its first fault, are `rows_of` in `specs/RowsOf.antt`; what holds of these rows
-//! is `AreInOrder` in `specs/Order.antt`. Each file is fetched, read and, if late rows are
+//! is `RowsAreInOrder` in `specs/Order.antt`. Each file is fetched, read and, if late rows are
 //! refused, checked for late rows, before the next is fetched. Reading stops at the first fault.
 //!
 //! Read first: `recorded` with `specs/Recorded.antt`, then `read_rows`.

@@ -34,7 +34,8 @@ impl Error for RowFault {}
 
 /// Appends the line for a fault of a sensor's file, as `sensor s: time order at row 2`.
 pub fn fault_line(text: &mut String, name: &str, fault: &RowFault) -> Result<(), AllocError>
-    ensures { OnOk result (string_bytes text.new ≡ string_bytes text.old ++ sensor_fault_line name.now fault.now) }
+    ensures { OnOk result (string_bytes text.new
+        ≡ string_bytes text.old ++ sensor_fault_line name.now fault.now) }
 {
     write!(text, "sensor {name}: {fault}\n")
 }
@@ -47,7 +48,8 @@ pub fn late_line(
     seen: Reading,
     limit: u64,
 ) -> Result<(), AllocError>
-    ensures { OnOk result (string_bytes text.new ≡ string_bytes text.old ++ late_line name.now row seen limit) }
+    ensures { OnOk result (string_bytes text.new
+        ≡ string_bytes text.old ++ late_line name.now row seen limit) }
 {
     write!(text, "late {name} row {row}, seen {seen} past {limit}\n")
 }

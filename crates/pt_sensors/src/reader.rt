@@ -78,7 +78,8 @@ pub fn reader_of(alloc: Global, bytes: &[u8]) -> Reader<&[u8]>
 pub fn advance(reader: &mut Reader<&[u8]>, line: &mut ByteRecord) -> Result<bool, Memory>
     requires { IsPlain (λ r. Some r.now) reader.old }
     ensures { IfOk result (λ found. Finds (λ r. Some r.now)
-        (next (reader_state reader.old) (bytes_left (λ r. Some r.now) reader.old)) found reader.new (fields_of line.new)) }
+        (next (reader_state reader.old) (bytes_left (λ r. Some r.now) reader.old)) found reader.new
+        (fields_of line.new)) }
 {
     reader.read_byte_record(line).map_err(|_| Memory)
 }
@@ -103,7 +104,8 @@ fn rows(
 ) -> Result<List<Row>, RowFault>
     requires plain { IsPlain (λ r. Some r.now) reader.old }
     requires empty { room.items ≡ [] }
-    ensures { GivesRows (rows_from 100000 1 None (reader_state reader.old) (bytes_left (λ r. Some r.now) reader.old)) result }
+    ensures { GivesRows (rows_from 100000 1 None (reader_state reader.old)
+        (bytes_left (λ r. Some r.now) reader.old)) result }
 {
     let mut rows = room;
     let mut before = None;
@@ -161,7 +163,8 @@ fn three<'a>(
     value: Option<&'a [u8]>,
 ) -> Option<(&'a [u8], &'a [u8], &'a [u8])>
     ensures { option_map (λ c. (c.0.now, c.1.now, c.2.now)) result
-        ≡ three (option_map (λ f. f.now) time.entry) (option_map (λ f. f.now) seen.entry) (option_map (λ f. f.now) value.entry) }
+        ≡ three (option_map (λ f. f.now) time.entry) (option_map (λ f. f.now) seen.entry)
+        (option_map (λ f. f.now) value.entry) }
 {
     match (time, seen, value) {
         (Some(time), Some(seen), Some(value)) => Some((time, seen, value)),

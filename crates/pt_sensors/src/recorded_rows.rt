@@ -30,15 +30,19 @@ fn rows_of_actor<S: Source>(
     late: LateRows,
 ) -> Result<List<Row>, RecordedFault>
     requires { actor < length graph.now.actors }
-    ensures rows { IfOk result (λ rows. RowsOfKind (S.contents source.old) (kind_of graph.now actor) rows) }
-    ensures passes { IfOk result (λ rows. RowsPass late graph.now.until (kind_of graph.now actor) rows) }
+    ensures rows { IfOk result (λ rows.
+        RowsOfKind (S.contents source.old) (kind_of graph.now actor) rows) }
+    ensures passes { IfOk result (λ rows.
+        RowsPass late graph.now.until (kind_of graph.now actor) rows) }
     ensures order { IfOk result RowsAreInOrder }
     ensures fault { IfErr result (λ f. CauseOfActor late f (S.contents source.old) graph.now actor
         (reading S.Source source.old source.new)) }
     ensures keeps { S.contents source.new ≡ S.contents source.old }
     ensures grows { S.faults source.old ≤ S.faults source.new }
-    ensures asks { IfOk result (λ rows. Asks (S.asked source.old) (S.asked source.new) (file_of (kind_of graph.now actor))) }
-    ensures asks_by { IfErr result (λ f. AsksBy f (S.asked source.old) (S.asked source.new) (file_of (kind_of graph.now actor))) }
+    ensures asks { IfOk result (λ rows.
+        Asks (S.asked source.old) (S.asked source.new) (file_of (kind_of graph.now actor))) }
+    ensures asks_by { IfErr result (λ f.
+        AsksBy f (S.asked source.old) (S.asked source.new) (file_of (kind_of graph.now actor))) }
 {
     let Kind::Sensor { file, bound } = &graph.actors.as_slice()[actor as usize].kind else {
         return Ok(List::new(Vec::new(alloc)));
@@ -62,16 +66,20 @@ pub fn recorded<S: Source>(
     late: LateRows,
 ) -> Result<Vec<SensorRows>, RecordedFault>
     requires { length graph.now.actors < 2 ^ 32 }
-    ensures rows { IfOk result (λ all. AreRows (S.contents source.old) graph.now (rows_for all.items)) }
+    ensures rows { IfOk result (λ all.
+        AreRows (S.contents source.old) graph.now (rows_for all.items)) }
     ensures passes { IfOk result (λ all. AllPass late graph.now (rows_for all.items)) }
     ensures actors { IfOk result (λ all. Each (IsOfActors (length graph.now.actors)) all.items) }
     ensures places { IfOk result (λ all. StandInPlace graph.now all.items) }
-    ensures fit { IfOk result (λ all. late ≡ Refused → FitRows graph.now (of_run graph.now (rows_for all.items))) }
+    ensures fit { IfOk result (λ all. late ≡ Refused →
+        FitRows graph.now (of_run graph.now (rows_for all.items))) }
     ensures fault { IfErr result (λ f. CauseOfRows late f (S.contents source.old) graph.now []
         (reading S.Source source.old source.new)) }
     ensures asks { AsksFiles graph.now (S.asked source.old) (S.asked source.new) }
-    ensures asks_up_to { IfErr result (λ f. AsksUpTo f graph.now (S.asked source.old) (S.asked source.new)) }
-    ensures asks_all { IfOk result (λ all. Asks (S.asked source.old) (S.asked source.new) (sensor_files graph.now.actors)) }
+    ensures asks_up_to { IfErr result
+        (λ f. AsksUpTo f graph.now (S.asked source.old) (S.asked source.new)) }
+    ensures asks_all { IfOk result (λ all.
+        Asks (S.asked source.old) (S.asked source.new) (sensor_files graph.now.actors)) }
     ensures keeps { S.contents source.new ≡ S.contents source.old }
     ensures grows { S.faults source.old ≤ S.faults source.new }
 {

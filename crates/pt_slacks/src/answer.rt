@@ -95,7 +95,8 @@ fn all_needs(
     requires len { length row.now ≡ length hops.now }
     requires row { (w : ℕ) → w < length hops.now → slice_index row.now w < 2 ^ 62 }
     requires cost { (w : ℕ) → w < length hops.now → (hop_at hops.now w).cost < 2 ^ 52 }
-    ensures { IfOk result (λ needs. AreNeeds graph.now hops.now (least_of least.now) (slice_index row.now) needs.items) }
+    ensures { IfOk result (λ needs. AreNeeds graph.now hops.now (least_of least.now)
+        (slice_index row.now) needs.items) }
 {
     let mut needs = Vec::new(alloc);
     for (number, actor) in graph.actors.as_slice().iter().enumerate() {
@@ -110,7 +111,8 @@ fn need(graph: &Graph, least: &Least, hops: &[Hop], row: &[u64], number: u32, ki
     requires len { length row.now ≡ length hops.now }
     requires row { (w : ℕ) → w < length hops.now → slice_index row.now w < 2 ^ 62 }
     requires cost { (w : ℕ) → w < length hops.now → (hop_at hops.now w).cost < 2 ^ 52 }
-    ensures { HasSlack kind.now → IsNeed graph.now hops.now (least_of least.now) (slice_index row.now) number result }
+    ensures { HasSlack kind.now → IsNeed graph.now hops.now (least_of least.now)
+        (slice_index row.now) number result }
 {
     match kind {
         Kind::Send { .. } | Kind::Actuator { .. } => needed(graph, least, hops, row, number),
@@ -145,7 +147,8 @@ fn list(alloc: Global, graph: &Graph, needs: &[u64]) -> Result<Vec<Slack>, Alloc
 
 /// Adds an entry for a sender or an actuator; does nothing for other kinds.
 fn add(slacks: &mut Vec<Slack>, actor: u32, slack: u64, kind: &Kind) -> Result<(), AllocError>
-    ensures { OnOk result (slacks.new.items ≡ slacks.old.items ++ with_entry kind.now (record { actor = actor; slack = slack }) []) }
+    ensures { OnOk result (slacks.new.items
+        ≡ slacks.old.items ++ with_entry kind.now (record { actor = actor; slack = slack }) []) }
 {
     match kind {
         Kind::Send { .. } | Kind::Actuator { .. } => slacks.push(Slack { actor, slack })?,

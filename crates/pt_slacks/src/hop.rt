@@ -46,7 +46,8 @@ fn hop_of(graph: &Graph, link: &Link) -> Hop
 
 /// The clock error of a link's two platforms, in microseconds.
 fn error(graph: &Graph, link: &Link) -> u64
-    ensures { result ≡ error_of graph.now (platform_of graph.now link.now.from) (platform_of graph.now link.now.to) }
+    ensures { result ≡ error_of graph.now (platform_of graph.now link.now.from)
+        (platform_of graph.now link.now.to) }
 {
     let sender = graph.platform_of(link.from);
     let receiver = graph.platform_of(link.to);

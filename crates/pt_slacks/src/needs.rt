@@ -43,7 +43,9 @@ pub fn raised(hops: &[Hop], least: &Least, row: &[u64], start: Time, actor: u32)
 /// The slack that an actor needs by a source with this number and kind, if it is a sensor.
 fn by_kind(kind: &Kind, least: &Least, source: u32, actor: u32) -> u64
     requires { kind_is_lawful kind.now ≡ true }
-    ensures { result ≡ by_kind kind.now (least_of least.now (record { actor = source; group = 0 }) (record { actor = actor; group = 0 })) }
+    ensures { result ≡ by_kind kind.now
+        (least_of least.now (record { actor = source; group = 0 })
+        (record { actor = actor; group = 0 })) }
 {
     match kind {
         Kind::Sensor { bound, .. } => by_source(least, *bound + 1, source, actor),
@@ -53,7 +55,9 @@ fn by_kind(kind: &Kind, least: &Least, source: u32, actor: u32) -> u64
 
 /// The slack that an actor needs by a source at which an event comes this late, in microseconds.
 pub fn by_source(least: &Least, late: u64, source: u32, actor: u32) -> u64
-    ensures { result ≡ needed_by late (least_of least.now (record { actor = source; group = 0 }) (record { actor = actor; group = 0 })) }
+    ensures { result ≡ needed_by late
+        (least_of least.now (record { actor = source; group = 0 })
+        (record { actor = actor; group = 0 })) }
 {
     let source = Unit {
         actor: source,

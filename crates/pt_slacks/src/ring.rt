@@ -80,7 +80,11 @@ fn raiser(hops: &[Hop], least: &Least, row: &[u64], at: u32, slack: u64) -> Opti
     requires len { length row.now ≡ length hops.now }
     requires row { (w : ℕ) → w < length hops.now → slice_index row.now w < 2 ^ 62 }
     requires cost { (w : ℕ) → w < length hops.now → (hop_at hops.now w).cost < 2 ^ 52 }
-    ensures { MatchOption result ((w : ℕ) → w < length hops.now → by_hop hops.now (least_of least.now) (slice_index row.now) (hop_at hops.now at).from w ≢ slack) (λ w. (w < length hops.now) × (by_hop hops.now (least_of least.now) (slice_index row.now) (hop_at hops.now at).from w ≡ slack)) }
+    ensures { MatchOption result ((w : ℕ) → w < length hops.now →
+        by_hop hops.now (least_of least.now) (slice_index row.now) (hop_at hops.now at).from w
+        ≢ slack) (λ w. (w < length hops.now)
+        × (by_hop hops.now (least_of least.now) (slice_index row.now) (hop_at hops.now at).from w
+        ≡ slack)) }
 {
     let actor = hops[at as usize].from;
     for (number, hop) in hops.iter().enumerate() {
@@ -132,7 +136,8 @@ fn closed(
     requires lawful { IsLawful graph.now }
     requires least { AreLeast graph.now (least_of least.now) }
     requires hops { hops.now ≡ map (hop_of graph.now) graph.now.links }
-    requires rows { AreSlackRows graph.now (least_of least.now) hops.now rows.now (length hops.now + 1) }
+    requires rows { AreSlackRows graph.now (least_of least.now) hops.now rows.now
+        (length hops.now + 1) }
     requires closing { IsRaisedByTrail hops.now (least_of least.now) rows.now trail.now round from }
     ensures { IfOk result (λ f. CauseOfSlacks f graph.now) }
 {
@@ -148,7 +153,10 @@ fn closed(
 
 /// The senders of the links along the trail from its end back to this link.
 fn senders(alloc: Global, hops: &[Hop], trail: &[u32], from: u32) -> Result<Vec<u32>, AllocError>
-    ensures { IfOk result (λ v. v.items ≡ map (λ l. (hop_at hops.now l).from) (take_while (λ l. not (l == from)) (reverse trail.now)) ++ (hop_at hops.now from).from ∷ []) }
+    ensures { IfOk result (λ v. v.items
+        ≡ map (λ l. (hop_at hops.now l).from)
+        (take_while (λ l. not (l == from)) (reverse trail.now))
+        ++ (hop_at hops.now from).from ∷ []) }
 {
     let mut sends = front(alloc, hops, trail, from)?;
     sends.push(sender(hops, from))?;
@@ -157,7 +165,9 @@ fn senders(alloc: Global, hops: &[Hop], trail: &[u32], from: u32) -> Result<Vec<
 
 /// The senders of the links along the trail from its end, up to this link.
 fn front(alloc: Global, hops: &[Hop], trail: &[u32], from: u32) -> Result<Vec<u32>, AllocError>
-    ensures { IfOk result (λ v. v.items ≡ map (λ l. (hop_at hops.now l).from) (take_while (λ l. not (l == from)) (reverse trail.now))) }
+    ensures { IfOk result (λ v. v.items
+        ≡ map (λ l. (hop_at hops.now l).from)
+        (take_while (λ l. not (l == from)) (reverse trail.now))) }
 {
     trail
         .iter()

@@ -80,7 +80,9 @@ fn next_row(
 fn first_risen(row: &[u64], next: &[u64]) -> Option<u32>
     requires len { length row.now ≡ length next.now }
     requires few { length row.now < 2 ^ 32 }
-    ensures { MatchOption result ((v : ℕ) → v < length row.now → slice_index next.now v ≤ slice_index row.now v) (HasRisen (length row.now) row.now next.now) }
+    ensures { MatchOption result ((v : ℕ) → v < length row.now →
+        slice_index next.now v ≤ slice_index row.now v)
+        (HasRisen (length row.now) row.now next.now) }
 {
     for number in 0..row.len() {
         if row[number] < next[number] {

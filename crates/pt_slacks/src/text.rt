@@ -29,7 +29,8 @@ fn push_head(text: &mut String) -> Result<(), AllocError>
 
 /// Appends the line of an actor.
 fn push_line(text: &mut String, name: &str, slack: u64) -> Result<(), AllocError>
-    ensures { OnOk result (string_bytes text.new ≡ string_bytes text.old ++ slack_line name.now slack) }
+    ensures { OnOk result (string_bytes text.new
+        ≡ string_bytes text.old ++ slack_line name.now slack) }
 {
     write!(text, "{name},{slack}\n")
 }

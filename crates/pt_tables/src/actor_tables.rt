@@ -49,7 +49,9 @@ impl ActorTables {
         tag: Tag,
         value: i64,
     ) -> Result<(), AllocError>
-        ensures { (xs : List ActorFiring) (x : ActorFiring) → self.old ≡ texts_from 0 actors.now xs → HasLine actor tag value x → OnOk result (self.new ≡ texts_from 0 actors.now (xs ++ x ∷ [])) }
+        ensures { (xs : List ActorFiring) (x : ActorFiring) →
+            self.old ≡ texts_from 0 actors.now xs → HasLine actor tag value x →
+            OnOk result (self.new ≡ texts_from 0 actors.now (xs ++ x ∷ [])) }
     {
         let number = actor as usize;
         if !has_table(actors, actor) || number >= self.tables.len() {
@@ -68,14 +70,16 @@ impl ActorTables {
         value: i64,
     ) -> Result<(), AllocError>
         requires { number < length self.old }
-        ensures { OnOk result (self.new ≡ slice_set self.old number (slice_index_or self.old number [] ++ line name.now tag value)) }
+        ensures { OnOk result (self.new ≡ slice_set self.old number
+            (slice_index_or self.old number [] ++ line name.now tag value)) }
     {
         self.tables[number].push_line(name, tag, value)
     }
 
     /// The header line `actuator,time,step,value`, and then the tables, as one text.
     pub fn text(&self, alloc: Global) -> Result<String, AllocError>
-        ensures { IfOk result (λ text. (g : Graph) (xs : List ActorFiring) → self.now ≡ texts_from 0 g.actors xs → string_bytes text ≡ tables_text g xs) }
+        ensures { IfOk result (λ text. (g : Graph) (xs : List ActorFiring) →
+            self.now ≡ texts_from 0 g.actors xs → string_bytes text ≡ tables_text g xs) }
     {
         let mut text = String::new(alloc);
         push_head(&mut text)?;

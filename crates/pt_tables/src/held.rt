@@ -29,7 +29,8 @@ pub(crate) fn turns_hold(history: &History)
 fn turn_holds(history: &History, levels: &TurnLevels, number: usize)
     requires number { number < length history.now.turns }
     requires levels { AreTurnLevels history.now.turns (number / 64) levels.now }
-    ensures { (turn : Turn) → slice_get history.now.turns number ≡ Some turn → HasHeldHead turn × Each IsHeldMessage turn.taken × Each IsHeldMessage turn.sent }
+    ensures { (turn : Turn) → slice_get history.now.turns number ≡ Some turn → HasHeldHead turn
+        × Each IsHeldMessage turn.taken × Each IsHeldMessage turn.sent }
 {
     let _head = history.head(number);
     messages_hold(taken_in(history, levels, number));
@@ -38,7 +39,8 @@ fn turn_holds(history: &History, levels: &TurnLevels, number: usize)
 
 /// That 64 bits hold the numbers of the results of all turns.
 fn results_hold(history: &History)
-    ensures { (turn : ℕ) → turn < length history.now.turns → Each IsHeldResult (posted_in history.now.turns turn) }
+    ensures { (turn : ℕ) → turn < length history.now.turns →
+        Each IsHeldResult (posted_in history.now.turns turn) }
 {
     for number in 0..history.results() {
         let _mark = history.result_mark(number);

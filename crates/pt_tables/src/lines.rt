@@ -25,7 +25,8 @@ pub fn push_turn_line(
     count: u64,
 ) -> Result<(), AllocError>
     requires { length platform.now ≤ 32 }
-    ensures { OnOk result (string_bytes text.new ≡ string_bytes text.old ++ turn_line platform.now first last count) }
+    ensures { OnOk result (string_bytes text.new
+        ≡ string_bytes text.old ++ turn_line platform.now first last count) }
 {
     let mut line = LineBuffer::new();
     line.field(count);

@@ -14,7 +14,8 @@ use std::alloc::{AllocError, Global};
 /// `out,-90,89` for an actuator.
 pub fn margins(alloc: Global, graph: &Graph, offsets: &Offsets) -> Result<String, AllocError>
     requires { length graph.now.actors < 2 ^ 32 }
-    ensures { IfOk result (λ text. string_bytes text ≡ margins_text graph.now (actor_offset_of offsets.now) (margin_in offsets.now)) }
+    ensures { IfOk result (λ text. string_bytes text
+        ≡ margins_text graph.now (actor_offset_of offsets.now) (margin_in offsets.now)) }
 {
     let mut text = String::new(alloc);
     push_head(&mut text)?;
@@ -40,7 +41,8 @@ fn push_line(
     offset: Option<i64>,
     margin: Option<i64>,
 ) -> Result<(), AllocError>
-    ensures { OnOk result (string_bytes text.new ≡ string_bytes text.old ++ margin_line name.now offset margin) }
+    ensures { OnOk result (string_bytes text.new
+        ≡ string_bytes text.old ++ margin_line name.now offset margin) }
 {
     text.push_str(name)?;
     push_cell(text, offset)?;

@@ -52,8 +52,11 @@ pub fn tables_of_meaning(
 ) -> Result<String, MeaningFault>
     requires lawful { IsLawful graph.now }
     requires sensors { Each (IsOfActors (length graph.now.actors)) sensors.now }
-    ensures text { IfOk result (λ text. Handed graph.now (rank_in ranks.now) (rows_of_run graph.now sensors.now) most (λ xs. string_bytes text ≡ tables_text graph.now xs)) }
-    ensures long { IsErrOf result MeaningFault.Long → IsLonger graph.now (rank_in ranks.now) (rows_of_run graph.now sensors.now) most }
+    ensures text { IfOk result (λ text.
+        Handed graph.now (rank_in ranks.now) (rows_of_run graph.now sensors.now) most
+        (λ xs. string_bytes text ≡ tables_text graph.now xs)) }
+    ensures long { IsErrOf result MeaningFault.Long →
+        IsLonger graph.now (rank_in ranks.now) (rows_of_run graph.now sensors.now) most }
 {
     let actors = graph.actors.as_slice();
     let tables = ActorTables::new(alloc, actors)?;

@@ -27,7 +27,8 @@ pub(crate) fn append(page: &mut Vec<u8>, bytes: &[u8])
 /// Puts a page, which is empty then.
 pub(crate) fn put_page<K: Sink>(out: &mut K, page: &mut Vec<u8>) -> Result<(), PutFault>
     ensures all { OnOk result (Appends (K.written out.old) (K.written out.new) page.old.items) }
-    ensures part { OnErr result (AppendsPart (K.written out.old) (K.written out.new) page.old.items) }
+    ensures part { OnErr result (AppendsPart (K.written out.old)
+        (K.written out.new) page.old.items) }
     ensures failed { OnErr result (Rose (K.faults out.old) (K.faults out.new)) }
     ensures grows { K.faults out.old ≤ K.faults out.new }
     ensures empty { OnOk result (page.new.items ≡ []) }
@@ -43,8 +44,10 @@ pub(crate) fn put_page<K: Sink>(out: &mut K, page: &mut Vec<u8>) -> Result<(), P
 #[inline(always)]
 pub(crate) fn make_room<K: Sink>(out: &mut K, page: &mut Vec<u8>) -> Result<(), PutFault>
     requires { 256 ≤ vec_capacity page.old }
-    ensures all { OnOk result (AreOut (K.written out.old) (K.written out.new) page.new.items page.old.items) }
-    ensures part { OnErr result (AppendsPart (K.written out.old) (K.written out.new) page.old.items) }
+    ensures all { OnOk result (AreOut (K.written out.old)
+        (K.written out.new) page.new.items page.old.items) }
+    ensures part { OnErr result (AppendsPart (K.written out.old)
+        (K.written out.new) page.old.items) }
     ensures failed { OnErr result (Rose (K.faults out.old) (K.faults out.new)) }
     ensures grows { K.faults out.old ≤ K.faults out.new }
     ensures room { OnOk result (vec_len page.new + 256 ≤ vec_capacity page.new) }
@@ -64,8 +67,10 @@ pub(crate) fn put_line<K: Sink>(
     line: &LineBuffer,
 ) -> Result<(), PutFault>
     requires { 256 ≤ vec_capacity page.old }
-    ensures all { OnOk result (AreOut (K.written out.old) (K.written out.new) page.new.items (page.old.items ++ line.now)) }
-    ensures part { OnErr result (AppendsPart (K.written out.old) (K.written out.new) (page.old.items ++ line.now)) }
+    ensures all { OnOk result (AreOut (K.written out.old) (K.written out.new) page.new.items
+        (page.old.items ++ line.now)) }
+    ensures part { OnErr result (AppendsPart (K.written out.old) (K.written out.new)
+        (page.old.items ++ line.now)) }
     ensures failed { OnErr result (Rose (K.faults out.old) (K.faults out.new)) }
     ensures grows { K.faults out.old ≤ K.faults out.new }
     ensures capacity { vec_capacity page.old ≤ vec_capacity page.new }

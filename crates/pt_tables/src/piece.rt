@@ -25,10 +25,12 @@ pub(crate) fn write_claims(
 )
     requires turn { turn < length history.now.turns }
     requires from { from ≡ length (flat_map (λ turn. turn.claimed) (take turn history.now.turns)) }
-    requires end { end ≡ length (flat_map (λ turn. turn.claimed) (take (turn + 1) history.now.turns)) }
+    requires end { end ≡ length (flat_map (λ turn. turn.claimed)
+        (take (turn + 1) history.now.turns)) }
     requires few { end ≤ from + 1 }
     requires names { HasShortNames graph.now }
-    ensures lines { pen.new.line ≡ flat_map (claim_line graph.now) (claimed_in history.now.turns turn) }
+    ensures lines { pen.new.line ≡ flat_map (claim_line graph.now)
+        (claimed_in history.now.turns turn) }
     ensures room { length pen.new.line + 26 ≤ 128 }
 {
     if from == end {
@@ -50,7 +52,8 @@ pub(crate) fn put_posts(
 )
     requires turn { turn < length history.now.turns }
     requires from { from ≡ length (flat_map (λ turn. turn.posted) (take turn history.now.turns)) }
-    requires end { end ≡ length (flat_map (λ turn. turn.posted) (take (turn + 1) history.now.turns)) }
+    requires end { end ≡ length (flat_map (λ turn. turn.posted)
+        (take (turn + 1) history.now.turns)) }
     requires few { end ≤ from + 1 }
     requires room { length line.old + 26 ≤ 128 }
     ensures { line.new ≡ flat_map post_line (posted_in history.now.turns turn) ++ line.old }

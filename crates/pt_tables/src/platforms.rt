@@ -28,8 +28,10 @@ pub fn platforms_hold(platforms: &[Platform])
 /// its plan and its own number. It takes no memory. A turn of platform p at reading 61 that claims task 0 of sensor s at tag 50.0
 /// has the lines `turn,p,61,61,1` and `claim,0,s,50,0`.
 pub fn put_log<K: Sink>(out: &mut K, page: LogPage, platforms: &[Platform]) -> Result<(), PutFault>
-    ensures all { OnOk result (Appends (K.written out.old) (K.written out.new) (log_head ++ flat_map platform_lines platforms.now)) }
-    ensures part { OnErr result (AppendsPart (K.written out.old) (K.written out.new) (log_head ++ flat_map platform_lines platforms.now)) }
+    ensures all { OnOk result (Appends (K.written out.old) (K.written out.new)
+        (log_head ++ flat_map platform_lines platforms.now)) }
+    ensures part { OnErr result (AppendsPart (K.written out.old) (K.written out.new)
+        (log_head ++ flat_map platform_lines platforms.now)) }
     ensures failed { OnErr result (Rose (K.faults out.old) (K.faults out.new)) }
     ensures grows { K.faults out.old ≤ K.faults out.new }
 {
@@ -45,8 +47,10 @@ fn put_platforms<K: Sink>(
     platforms: &[Platform],
 ) -> Result<(), PutFault>
     requires { 256 ≤ vec_capacity page.old }
-    ensures all { OnOk result (Appends (K.written out.old) (K.written out.new) (page.old.items ++ flat_map platform_lines platforms.now)) }
-    ensures part { OnErr result (AppendsPart (K.written out.old) (K.written out.new) (page.old.items ++ flat_map platform_lines platforms.now)) }
+    ensures all { OnOk result (Appends (K.written out.old) (K.written out.new)
+        (page.old.items ++ flat_map platform_lines platforms.now)) }
+    ensures part { OnErr result (AppendsPart (K.written out.old) (K.written out.new)
+        (page.old.items ++ flat_map platform_lines platforms.now)) }
     ensures failed { OnErr result (Rose (K.faults out.old) (K.faults out.new)) }
     ensures grows { K.faults out.old ≤ K.faults out.new }
 {
@@ -63,8 +67,10 @@ fn put_platform<K: Sink>(
     platform: &Platform,
 ) -> Result<(), PutFault>
     requires { 256 ≤ vec_capacity page.old }
-    ensures all { OnOk result (AreOut (K.written out.old) (K.written out.new) page.new.items (page.old.items ++ platform_lines platform.now)) }
-    ensures part { OnErr result (AppendsPart (K.written out.old) (K.written out.new) (page.old.items ++ platform_lines platform.now)) }
+    ensures all { OnOk result (AreOut (K.written out.old) (K.written out.new) page.new.items
+        (page.old.items ++ platform_lines platform.now)) }
+    ensures part { OnErr result (AppendsPart (K.written out.old) (K.written out.new)
+        (page.old.items ++ platform_lines platform.now)) }
     ensures failed { OnErr result (Rose (K.faults out.old) (K.faults out.new)) }
     ensures grows { K.faults out.old ≤ K.faults out.new }
     ensures room { 256 ≤ vec_capacity page.new }

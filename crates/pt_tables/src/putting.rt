@@ -30,8 +30,10 @@ pub(crate) fn put_turns<K: Sink>(
 ) -> Result<(), PutFault>
     requires names { HasShortNames graph.now }
     requires room { 256 ≤ vec_capacity page.old }
-    ensures all { OnOk result (AreOut (K.written out.old) (K.written out.new) page.new.items (page.old.items ++ history_lines graph.now platform history.now.turns)) }
-    ensures part { OnErr result (AppendsPart (K.written out.old) (K.written out.new) (page.old.items ++ history_lines graph.now platform history.now.turns)) }
+    ensures all { OnOk result (AreOut (K.written out.old) (K.written out.new) page.new.items
+        (page.old.items ++ history_lines graph.now platform history.now.turns)) }
+    ensures part { OnErr result (AppendsPart (K.written out.old) (K.written out.new)
+        (page.old.items ++ history_lines graph.now platform history.now.turns)) }
     ensures failed { OnErr result (Rose (K.faults out.old) (K.faults out.new)) }
     ensures grows { K.faults out.old ≤ K.faults out.new }
     ensures room { 256 ≤ vec_capacity page.new }
@@ -60,9 +62,11 @@ fn put_turn<K: Sink>(
     ensures platform { OnOk result (reader.new.line.platform.now ≡ reader.old.line.platform.now) }
     ensures at { OnOk result (HasComeTo history.now.turns (number + 1) reader.new) }
     ensures all { OnOk result ((turn : Turn) → slice_get history.now.turns number ≡ Some turn →
-        AreOut (K.written out.old) (K.written out.new) page.new.items (page.old.items ++ named_lines graph.now reader.old.line.platform.now turn)) }
+        AreOut (K.written out.old) (K.written out.new) page.new.items
+        (page.old.items ++ named_lines graph.now reader.old.line.platform.now turn)) }
     ensures part { OnErr result ((turn : Turn) → slice_get history.now.turns number ≡ Some turn →
-        AppendsPart (K.written out.old) (K.written out.new) (page.old.items ++ named_lines graph.now reader.old.line.platform.now turn)) }
+        AppendsPart (K.written out.old) (K.written out.new)
+        (page.old.items ++ named_lines graph.now reader.old.line.platform.now turn)) }
     ensures failed { OnErr result (Rose (K.faults out.old) (K.faults out.new)) }
     ensures grows { K.faults out.old ≤ K.faults out.new }
     ensures room { 256 ≤ vec_capacity page.new }
@@ -95,9 +99,11 @@ fn put_lines<K: Sink>(
     ensures line { OnOk result (reader.new.line ≡ reader.old.line) }
     ensures walk { OnOk result (reader.new.walk ≡ reader.old.walk) }
     ensures all { OnOk result ((turn : Turn) → slice_get history.now.turns number ≡ Some turn →
-        AreOut (K.written out.old) (K.written out.new) page.new.items (page.old.items ++ named_lines graph.now reader.old.line.platform.now turn)) }
+        AreOut (K.written out.old) (K.written out.new) page.new.items
+        (page.old.items ++ named_lines graph.now reader.old.line.platform.now turn)) }
     ensures part { OnErr result ((turn : Turn) → slice_get history.now.turns number ≡ Some turn →
-        AppendsPart (K.written out.old) (K.written out.new) (page.old.items ++ named_lines graph.now reader.old.line.platform.now turn)) }
+        AppendsPart (K.written out.old) (K.written out.new)
+        (page.old.items ++ named_lines graph.now reader.old.line.platform.now turn)) }
     ensures failed { OnErr result (Rose (K.faults out.old) (K.faults out.new)) }
     ensures grows { K.faults out.old ≤ K.faults out.new }
     ensures room { 256 ≤ vec_capacity page.new }
@@ -131,9 +137,11 @@ fn put_long<K: Sink>(
     ensures line { reader.new.line ≡ reader.old.line }
     ensures walk { reader.new.walk ≡ reader.old.walk }
     ensures all { OnOk result ((turn : Turn) → slice_get history.now.turns number ≡ Some turn →
-        AreOut (K.written out.old) (K.written out.new) page.new.items (page.old.items ++ named_lines graph.now reader.old.line.platform.now turn)) }
+        AreOut (K.written out.old) (K.written out.new) page.new.items
+        (page.old.items ++ named_lines graph.now reader.old.line.platform.now turn)) }
     ensures part { OnErr result ((turn : Turn) → slice_get history.now.turns number ≡ Some turn →
-        AppendsPart (K.written out.old) (K.written out.new) (page.old.items ++ named_lines graph.now reader.old.line.platform.now turn)) }
+        AppendsPart (K.written out.old) (K.written out.new)
+        (page.old.items ++ named_lines graph.now reader.old.line.platform.now turn)) }
     ensures failed { OnErr result (Rose (K.faults out.old) (K.faults out.new)) }
     ensures grows { K.faults out.old ≤ K.faults out.new }
     ensures room { 256 ≤ vec_capacity page.new }
@@ -157,10 +165,14 @@ fn put_lists<K: Sink>(
     requires lists { AreListsOf history.now.turns lists.now }
     requires names { HasShortNames graph.now }
     requires room { 256 ≤ vec_capacity page.old }
-    ensures all { OnOk result ((turn : Turn) → slice_get history.now.turns lists.now.number ≡ Some turn →
-        AreOut (K.written out.old) (K.written out.new) page.new.items (page.old.items ++ list_lines graph.now turn)) }
-    ensures part { OnErr result ((turn : Turn) → slice_get history.now.turns lists.now.number ≡ Some turn →
-        AppendsPart (K.written out.old) (K.written out.new) (page.old.items ++ list_lines graph.now turn)) }
+    ensures all { OnOk result ((turn : Turn) →
+        slice_get history.now.turns lists.now.number ≡ Some turn →
+        AreOut (K.written out.old) (K.written out.new) page.new.items
+        (page.old.items ++ list_lines graph.now turn)) }
+    ensures part { OnErr result ((turn : Turn) →
+        slice_get history.now.turns lists.now.number ≡ Some turn →
+        AppendsPart (K.written out.old) (K.written out.new)
+        (page.old.items ++ list_lines graph.now turn)) }
     ensures failed { OnErr result (Rose (K.faults out.old) (K.faults out.new)) }
     ensures grows { K.faults out.old ≤ K.faults out.new }
     ensures room { 256 ≤ vec_capacity page.new }
@@ -187,10 +199,14 @@ fn put_list<K: Sink>(
     requires lists { AreListsOf history.now.turns lists.now }
     requires names { HasShortNames graph.now }
     requires room { 256 ≤ vec_capacity page.old }
-    ensures all { OnOk result ((turn : Turn) → slice_get history.now.turns lists.now.number ≡ Some turn →
-        AreOut (K.written out.old) (K.written out.new) page.new.items (page.old.items ++ all_lines (entry_lines graph.now turn list))) }
-    ensures part { OnErr result ((turn : Turn) → slice_get history.now.turns lists.now.number ≡ Some turn →
-        AppendsPart (K.written out.old) (K.written out.new) (page.old.items ++ all_lines (entry_lines graph.now turn list))) }
+    ensures all { OnOk result ((turn : Turn) →
+        slice_get history.now.turns lists.now.number ≡ Some turn →
+        AreOut (K.written out.old) (K.written out.new) page.new.items
+        (page.old.items ++ all_lines (entry_lines graph.now turn list))) }
+    ensures part { OnErr result ((turn : Turn) →
+        slice_get history.now.turns lists.now.number ≡ Some turn →
+        AppendsPart (K.written out.old) (K.written out.new)
+        (page.old.items ++ all_lines (entry_lines graph.now turn list))) }
     ensures failed { OnErr result (Rose (K.faults out.old) (K.faults out.new)) }
     ensures grows { K.faults out.old ≤ K.faults out.new }
     ensures room { 256 ≤ vec_capacity page.new }

@@ -69,11 +69,14 @@ impl<'a> Reader<'a> {
         requires walk { IsAtTurn history.now.turns number self.old.walk }
         requires through { AreThrough history.now.turns number through }
         requires names { HasShortNames graph.now }
-        requires short { (turn : Turn) → slice_get history.now.turns number ≡ Some turn → IsShort turn }
+        requires short { (turn : Turn) → slice_get history.now.turns number ≡ Some turn →
+            IsShort turn }
         requires room { vec_len page.old + 256 ≤ vec_capacity page.old }
         ensures line { self.new.line ≡ self.old.line }
         ensures walk { self.new.walk ≡ self.old.walk }
-        ensures lines { option_map (λ turn. page.old.items ++ named_lines graph.now self.old.line.platform.now turn) (slice_get history.now.turns number) ≡ Some page.new.items }
+        ensures lines { option_map (λ turn.
+            page.old.items ++ named_lines graph.now self.old.line.platform.now turn)
+            (slice_get history.now.turns number) ≡ Some page.new.items }
         ensures capacity { vec_capacity page.old ≤ vec_capacity page.new }
     {
         let Walk {

@@ -76,7 +76,9 @@ impl<'a> TurnLine<'a> {
     pub(crate) fn append_before(&self, page: &mut Vec<u8>, after: &mut LineBuffer)
         requires kept { IsKeptLine self.now }
         requires room { vec_len page.old + 256 ≤ vec_capacity page.old }
-        ensures lines { page.new.items ≡ (page.old.items ++ turn_line self.now.platform.now self.now.first self.now.last self.now.count) ++ after.old }
+        ensures lines { page.new.items ≡
+            (page.old.items ++ turn_line self.now.platform.now self.now.first self.now.last
+            self.now.count) ++ after.old }
         ensures capacity { vec_capacity page.old ≤ vec_capacity page.new }
     {
         after.append_after_line(page, &self.line);
@@ -99,7 +101,8 @@ fn head_of(platform: &str) -> LineBuffer
 #[inline(always)]
 fn write_turn_line(line: &mut LineBuffer, head: &LineBuffer, first: u64, last: u64, count: u64)
     requires { length head.now ≤ 64 }
-    ensures { (platform : List ℕ) → head.now ≡ codes "turn," ++ platform ++ 44 ∷ [] → line.new ≡ turn_line platform first last count }
+    ensures { (platform : List ℕ) → head.now ≡ codes "turn," ++ platform ++ 44 ∷ [] →
+        line.new ≡ turn_line platform first last count }
 {
     line.end();
     line.field(count);

@@ -96,7 +96,8 @@ impl<'a> TurnLists<'a> {
         requires lists { AreListsOf history.now.turns self.now }
         requires index { index < count_of self.now list }
         requires names { HasShortNames graph.now }
-        ensures { (turn : Turn) → slice_get history.now.turns self.now.number ≡ Some turn → slice_get (entry_lines graph.now turn list) index ≡ Some pen.new.line }
+        ensures { (turn : Turn) → slice_get history.now.turns self.now.number ≡ Some turn →
+            slice_get (entry_lines graph.now turn list) index ≡ Some pen.new.line }
     {
         match list {
             TurnList::Posted => write_post(

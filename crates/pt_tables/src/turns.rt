@@ -23,7 +23,8 @@ pub fn push_lists(
 ) -> Result<(), AllocError>
     requires lawful { IsLawful graph.now }
     requires number { number < length history.now.turns }
-    ensures { OnOk result (option_map (λ turn. string_bytes text.old ++ list_lines graph.now turn) (slice_get history.now.turns number) ≡ Some (string_bytes text.new)) }
+    ensures { OnOk result (option_map (λ turn. string_bytes text.old ++ list_lines graph.now turn)
+        (slice_get history.now.turns number) ≡ Some (string_bytes text.new)) }
 {
     let walk = Walk::at(history, number);
     let through = counts_through(&walk, history, number);
@@ -49,8 +50,10 @@ fn push_list(
     requires number { lists.now.number < length history.now.turns }
     requires lists { AreListsOf history.now.turns lists.now }
     requires names { HasShortNames graph.now }
-    ensures { OnOk result ((turn : Turn) → slice_get history.now.turns lists.now.number ≡ Some turn →
-        string_bytes text.new ≡ string_bytes text.old ++ all_lines (entry_lines graph.now turn list)) }
+    ensures { OnOk result ((turn : Turn) →
+        slice_get history.now.turns lists.now.number ≡ Some turn →
+        string_bytes text.new ≡ string_bytes text.old
+        ++ all_lines (entry_lines graph.now turn list)) }
 {
     for index in 0..lists.count(list) {
         lists.write(pen, graph, history, list, index);

@@ -138,7 +138,8 @@ pub(crate) fn is_short(walk: &Walk, number: usize, through: Counts) -> bool
     requires results { walk.now.results ≤ through.results }
     requires claims { walk.now.claims ≤ through.claims }
     ensures works { result ≡ true → HasWorksOnly walk.now.levels number }
-    ensures few { result ≡ true → (through.results ≤ walk.now.results + 1) × (through.claims ≤ walk.now.claims + 1) }
+    ensures few { result ≡ true → (through.results ≤ walk.now.results + 1)
+        × (through.claims ≤ walk.now.claims + 1) }
 {
     walk.works.is_level(number)
         && through.results - walk.results <= 1
@@ -169,7 +170,8 @@ pub(crate) fn head_after(history: &History, levels: &TurnLevels, last: u64, numb
 pub(crate) fn rows_in<'a>(history: &'a History, levels: &TurnLevels, number: usize) -> &'a [RowAt]
     requires number { number < length history.now.turns }
     requires levels { AreTurnLevels history.now.turns (number / 64) levels.now }
-    ensures { option_map (λ turn. turn.rows) (slice_get history.now.turns number) ≡ Some result.now }
+    ensures { option_map (λ turn. turn.rows) (slice_get history.now.turns number)
+        ≡ Some result.now }
 {
     if levels.rows.is_level(number) {
         return &[];
@@ -182,7 +184,8 @@ pub(crate) fn rows_in<'a>(history: &'a History, levels: &TurnLevels, number: usi
 pub(crate) fn taken_in<'a>(history: &'a History, levels: &TurnLevels, number: usize) -> &'a [OnLink]
     requires number { number < length history.now.turns }
     requires levels { AreTurnLevels history.now.turns (number / 64) levels.now }
-    ensures { option_map (λ turn. turn.taken) (slice_get history.now.turns number) ≡ Some result.now }
+    ensures { option_map (λ turn. turn.taken) (slice_get history.now.turns number)
+        ≡ Some result.now }
 {
     if levels.taken.is_level(number) {
         return &[];
@@ -195,7 +198,8 @@ pub(crate) fn taken_in<'a>(history: &'a History, levels: &TurnLevels, number: us
 pub(crate) fn sent_in<'a>(history: &'a History, levels: &TurnLevels, number: usize) -> &'a [OnLink]
     requires number { number < length history.now.turns }
     requires levels { AreTurnLevels history.now.turns (number / 64) levels.now }
-    ensures { option_map (λ turn. turn.sent) (slice_get history.now.turns number) ≡ Some result.now }
+    ensures { option_map (λ turn. turn.sent) (slice_get history.now.turns number)
+        ≡ Some result.now }
 {
     if levels.sent.is_level(number) {
         return &[];
@@ -213,7 +217,8 @@ pub(crate) fn results_after(
 ) -> usize
     requires turn { turn < length history.now.turns }
     requires levels { AreTurnLevels history.now.turns (turn / 64) levels.now }
-    requires results { results ≡ length (flat_map (λ turn. turn.posted) (take turn history.now.turns)) }
+    requires results { results ≡ length
+        (flat_map (λ turn. turn.posted) (take turn history.now.turns)) }
     ensures { result ≡ length (flat_map (λ turn. turn.posted) (take (turn + 1) history.now.turns)) }
 {
     if levels.posted.is_level(turn) {
@@ -232,8 +237,10 @@ pub(crate) fn claims_after(
 ) -> usize
     requires turn { turn < length history.now.turns }
     requires levels { AreTurnLevels history.now.turns (turn / 64) levels.now }
-    requires claims { claims ≡ length (flat_map (λ turn. turn.claimed) (take turn history.now.turns)) }
-    ensures { result ≡ length (flat_map (λ turn. turn.claimed) (take (turn + 1) history.now.turns)) }
+    requires claims { claims ≡ length
+        (flat_map (λ turn. turn.claimed) (take turn history.now.turns)) }
+    ensures { result ≡ length (flat_map (λ turn. turn.claimed)
+        (take (turn + 1) history.now.turns)) }
 {
     if levels.claimed.is_level(turn) {
         return claims;

@@ -32,7 +32,8 @@ fn fire_next(
     results: &mut Vec<Done>,
 ) -> Result<(), Memory>
     requires lawful { IsLawful graph.now }
-    ensures { OnOk result (IsFiredOnto (kind_of graph.now task.now.actor) task.now results.old.items results.new.items) }
+    ensures { OnOk result (IsFiredOnto
+        (kind_of graph.now task.now.actor) task.now results.old.items results.new.items) }
 {
     match graph.actors.as_slice().get(task.actor as usize) {
         Some(actor) => fire_onto(blocks, &actor.kind, task, results),

@@ -51,7 +51,8 @@ pub fn take_all(
     requires lawful { IsLawful graph.now }
     requires links { length pipes.old ≡ length graph.now.links }
     requires none { under_way.old ≡ false → list_all is_empty pipes.old ≡ true }
-    ensures taken { OnOk result (taken.new.items ≡ taken.old.items ++ arriving graph.now number 0 pipes.old) }
+    ensures taken { OnOk result (taken.new.items
+        ≡ taken.old.items ++ arriving graph.now number 0 pipes.old) }
     ensures pipes { OnOk result (pipes.new ≡ emptied graph.now number 0 pipes.old) }
     ensures none { OnOk result (under_way.new ≡ false → list_all is_empty pipes.new ≡ true) }
 {
@@ -75,7 +76,8 @@ fn take_each(
 ) -> Result<(), Memory>
     requires lawful { IsLawful graph.now }
     requires links { length pipes.old ≡ length graph.now.links }
-    ensures taken { OnOk result (taken.new.items ≡ taken.old.items ++ arriving graph.now number 0 pipes.old) }
+    ensures taken { OnOk result (taken.new.items
+        ≡ taken.old.items ++ arriving graph.now number 0 pipes.old) }
     ensures pipes { OnOk result (pipes.new ≡ emptied graph.now number 0 pipes.old) }
 {
     let links = graph.links.as_slice();

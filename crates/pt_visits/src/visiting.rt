@@ -30,7 +30,8 @@ fn rests(
     reading: Reading,
 ) -> Result<bool, Memory>
     requires no_fault { platform.old.fault ≡ None }
-    ensures rested { IfOk result (λ rested. rested ≡ true → (results.now ≡ []) × (taken.now ≡ []) × HasRested platform.old platform.new reading) }
+    ensures rested { IfOk result (λ rested. rested ≡ true → (results.now ≡ []) × (taken.now ≡ [])
+        × HasRested platform.old platform.new reading) }
     ensures awake { IfOk result (λ rested. rested ≡ false → platform.new ≡ platform.old) }
 {
     if !results.is_empty() {
@@ -63,9 +64,11 @@ pub fn visit(
     requires no_fault { platform.old.fault ≡ None }
     requires links { length pipes.old ≡ length platform.old.plan.graph.links }
     requires done { AreDone platform.old.plan.graph results.old.items }
-    requires taken { MayCome platform.old.plan.graph (level_at platform.old) platform.old.number (state_at platform.old)
+    requires taken { MayCome platform.old.plan.graph (level_at platform.old) platform.old.number
+        (state_at platform.old)
         (arriving platform.old.plan.graph platform.old.number 0 pipes.old) }
-    ensures visited { OnOk result (IsVisited most reading results.old.items results.new.items platform.old platform.new pipes.old pipes.new) }
+    ensures visited { OnOk result (IsVisited most reading results.old.items results.new.items
+        platform.old platform.new pipes.old pipes.new) }
 {
     let mut under_way = true;
     visit_knowing(
@@ -97,10 +100,12 @@ pub fn visit_knowing(
     requires no_fault { platform.old.fault ≡ None }
     requires links { length pipes.old ≡ length platform.old.plan.graph.links }
     requires done { AreDone platform.old.plan.graph results.old.items }
-    requires taken { MayCome platform.old.plan.graph (level_at platform.old) platform.old.number (state_at platform.old)
+    requires taken { MayCome platform.old.plan.graph (level_at platform.old) platform.old.number
+        (state_at platform.old)
         (arriving platform.old.plan.graph platform.old.number 0 pipes.old) }
     requires none { under_way.old ≡ false → list_all is_empty pipes.old ≡ true }
-    ensures visited { OnOk result (IsVisited most reading results.old.items results.new.items platform.old platform.new pipes.old pipes.new) }
+    ensures visited { OnOk result (IsVisited most reading results.old.items results.new.items
+        platform.old platform.new pipes.old pipes.new) }
     ensures none { OnOk result (under_way.new ≡ false → list_all is_empty pipes.new ≡ true) }
 {
     desk.taken.clear();

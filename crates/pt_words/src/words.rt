@@ -78,7 +78,8 @@ fn order_with<'a>(
     verb: Verb,
     words: &'a [String],
 ) -> Result<Option<Order<'a>>, AllocError>
-    ensures { IfOk result (λ order. option_map in_words order ≡ order_with verb (map string_bytes words.entry.now)) }
+    ensures { IfOk result (λ order. option_map in_words order
+        ≡ order_with verb (map string_bytes words.entry.now)) }
 {
     if has_short(words) {
         return Ok(None);
@@ -228,7 +229,8 @@ fn graph_in<'m, 'a>(words: Option<&'m [&'a str]>) -> Option<&'a str>
 
 /// The positional words, if there are exactly two and neither is empty.
 fn pair_in<'m, 'a>(words: Option<&'m [&'a str]>) -> Option<(&'a str, &'a str)>
-    ensures { option_map (λ pair. (pair.0.now, pair.1.now)) result ≡ pair_in (texts_in words.entry) }
+    ensures { option_map (λ pair. (pair.0.now, pair.1.now)) result
+        ≡ pair_in (texts_in words.entry) }
 {
     match words {
         Some([first, second]) if !first.is_empty() && !second.is_empty() => Some((*first, *second)),

@@ -22,7 +22,7 @@ use Rattle.pt_semantics.specs.Posting.{Posts, after_post}
 use Rattle.pt_semantics.specs.Taking.{IsOnTime, Takes, after_message, with_taken}
 use Rattle.pt_semantics.specs.Turn.{IsLast, IsTurn, Turn}
 use Rattle.pt_semantics.specs.Units.{unit_of}
-use Rattle.pt_semantics.specs.Visits.{IsVisit, Made, Together}
+use Rattle.pt_semantics.specs.Visits.{IsVisit, VisitRecord, RunState}
 use Rattle.pt_live_laws.specs.Growth.Growing.{SeenAfter, at_home, followed, grown, grown_together}
 
 not_seen : (r seen : ℕ) → r < seen → nat_le seen r ≡ false
@@ -192,7 +192,7 @@ histories_grown g level i rows more turns s is later = record {
   joined = is.joined;
 }
 
-pub visit_grown : (g : Graph) (level : ℕ → ℕ) (most : ℕ) (room : ℕ → ℕ) (r : ℕ) (x y : Together) (m : Made) (more : ℕ → List Row) →
+pub visit_grown : (g : Graph) (level : ℕ → ℕ) (most : ℕ) (room : ℕ → ℕ) (r : ℕ) (x y : RunState) (m : VisitRecord) (more : ℕ → List Row) →
     IsVisit g level most room r x m y → SeenAfter r (at_home g m.platform more) → IsVisit g level most room r (grown_together g more x) m (grown_together g more y)
 unfolding turn_grown
 visit_grown g level most room r x y m more v later = record {

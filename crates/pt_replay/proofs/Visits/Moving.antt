@@ -1,15 +1,13 @@
 -- The messages of one link after the other are moved into the pipes and out of them.
-use Rattle.std.proofs.Common.{◌≡◌, ℕ, suc, ◌+◌, ◌<◌, Bor, Option, None, false, List, [], ◌∷◌, ◌++◌, Some, length, map, get_or, take, drop, set, refl, sym, ap, ap₂, subst, ◌∙◌, arith, eq-eqb, length-set}
-use Rattle.std.specs.Prelude.{◌==◌, option_map, slice_get, slice_index_or}
-use Rattle.std.specs.Option.{is_some}
-use Rattle.std.proofs.lemmas.Bool.{cond-false, cond-true, false≢true, ne_eqb}
+use Rattle.std.proofs.Common.{◌≡◌, ℕ, suc, ◌+◌, ◌<◌, List, [], ◌∷◌, ◌++◌, Some, length, map, get_or, take, drop, set, refl, sym, ap, ap₂, subst, ◌∙◌, arith, eq-eqb, length-set}
+use Rattle.std.specs.Prelude.{◌==◌, slice_get, slice_index_or}
+use Rattle.std.proofs.lemmas.Bool.{cond-false, cond-true, ne_eqb}
 use Rattle.std.proofs.lemmas.List.{drop-set-lt, drop_more}
 use Rattle.pt_tags.specs.declared.message.Message.{Message}
 use Rattle.pt_types.specs.declared.graph.Graph.{Graph}
 use Rattle.pt_types.specs.declared.graph.Link.{Link}
 use Rattle.pt_types.specs.Lookups.{platform_of}
 use Rattle.pt_semantics.specs.Lists.{Each}
-use Rattle.pt_semantics.proofs.Lookups.{none_some}
 use Rattle.pt_types.specs.declared.air.Air.{Air}
 use Rattle.pt_types.specs.declared.air.InAir.{InAir}
 use Rattle.pt_semantics.specs.Arrivals.{AirwayView}
@@ -111,12 +109,6 @@ module _ (air : Air) (g : Graph) (now l : ℕ) (below : l < length g.links) (bef
 pub all_empty : {A B : Type 0} (n : ℕ) (xs : List A) → map_from {A = A} {B = List B} (λ k x. []) n xs ≡ map (λ x. []) xs
 all_empty n [] = refl
 all_empty {A} {B} n (x ∷ xs) = ap (λ (z : List (List B)). [] ∷ z) (all_empty (suc n) xs)
-
--- where no message is the oldest, there are none
-pub no_oldest : (oldest : Option (Bor Message)) (messages : List Message) → is_some oldest ≡ false → option_map (λ (message : Bor Message). message.now) oldest ≡ slice_get messages 0 → messages ≡ []
-no_oldest None [] none is = refl
-no_oldest None (m ∷ messages) none is = absurd (none_some m is)
-no_oldest (Some m) messages none is = absurd (false≢true (sym none))
 
 -- pipes without messages
 pub none_there : (pipes : List (List Message)) → ((l : ℕ) → slice_index_or pipes l [] ≡ []) → pipes ≡ map (λ pipe. []) pipes

@@ -2,7 +2,7 @@
 use Rattle.std.proofs.Common.{ℕ, ◌≤◌, List, length, arith}
 use Rattle.pt_types.specs.declared.graph.Graph.{Graph}
 use Rattle.pt_types.specs.declared.rows.Row.{Row}
-use Rattle.pt_semantics.specs.Visits.{Made}
+use Rattle.pt_semantics.specs.Visits.{VisitRecord}
 use Rattle.pt_paced_laws.proofs.Kept.{keeps_pace}
 use Rattle.pt_paced_laws.proofs.Long.{long_in_round}
 use Rattle.pt_types.specs.declared.air.Air.{Air}
@@ -15,7 +15,7 @@ use Rattle.pt_replay_laws.specs.InBounds.InBounds.{FaultsInBoundsAreLong, IsInBo
 use Rattle.pt_replay_laws.proofs.InBounds.Rounds.{round_advances, round_paceful, run_paceful}
 use Rattle.pt_replay_laws.proofs.InBounds.Ways.{clocks_are_near}
 
-sound_before : (g : Graph) (level : ℕ → ℕ) (air : Air) (rows : ℕ → List Row) (rounds : List (List Made)) (now : ℕ) (x : ReplayState) → IsInBounds g level air rows → IsReplay g level air rows rounds now x → IsSound g level rows 0 x
+sound_before : (g : Graph) (level : ℕ → ℕ) (air : Air) (rows : ℕ → List Row) (rounds : List (List VisitRecord)) (now : ℕ) (x : ReplayState) → IsInBounds g level air rows → IsReplay g level air rows rounds now x → IsSound g level rows 0 x
 sound_before g level air rows rounds now x inside run = run_sound g level rows air inside.wired inside.levels inside.fit rounds now x run
 
 pub none_is_late : NoneIsLateInBounds

@@ -12,7 +12,7 @@ use Rattle.pt_semantics.specs.Bounds.{link_bound}
 use Rattle.pt_semantics.specs.Linked.{IsFinished}
 use Rattle.pt_semantics.specs.Lists.{Each, IsIn}
 use Rattle.pt_semantics.specs.Paced.{IsCandidate}
-use Rattle.pt_semantics.specs.Visits.{Made}
+use Rattle.pt_semantics.specs.Visits.{VisitRecord}
 use Rattle.pt_semantics.proofs.Longest.{levels_grow}
 use Rattle.pt_laws.proofs.Onward.{AdvanceRound}
 use Rattle.pt_laws.proofs.Raise.{raise_near, start_near}
@@ -32,7 +32,7 @@ use Rattle.pt_replay_laws.proofs.InBounds.Ways.{nothing_in_time}
 use Rattle.pt_paced_laws.proofs.Places.{not_before}
 
 -- a round is one of turns at each platform's own reading
-pub round_advances : (g : Graph) (level : ℕ → ℕ) (air : Air) (now n i : ℕ) (x : ReplayState) (ms : List Made) (y : ReplayState) → ReplayRound g level air now n i x ms y → AdvanceRound g level (λ j. reading_at air j now) n i (without_arrivals x) ms (without_arrivals y)
+pub round_advances : (g : Graph) (level : ℕ → ℕ) (air : Air) (now n i : ℕ) (x : ReplayState) (ms : List VisitRecord) (y : ReplayState) → ReplayRound g level air now n i x ms y → AdvanceRound g level (λ j. reading_at air j now) n i (without_arrivals x) ms (without_arrivals y)
 round_advances g level air now zero i x ms y (none, same) = (none, ap without_arrivals same)
 round_advances g level air now (suc n) i x ms y round = ⊎_elim
     (λ (done : IsFinished g i (x.at i) × ReplayRound g level air now n (suc i) x ms y). inl (done.0, round_advances g level air now n (suc i) x ms y done.1))
@@ -58,10 +58,10 @@ no_later g air next x least i lt still d candidate =
     sums a b c e p q = omega (arith, p, q)
 
 module _ (g : Graph) (level : ℕ → ℕ) (air : Air) (rows : ℕ → List Row) (inside : IsInBounds g level air rows) where
-  pub round_paceful : (now n i : ℕ) (x : ReplayState) (ms : List Made) (y : ReplayState) → n + i ≤ length g.platforms → IsSound g level rows i x → IsPaceful g level air rows inside.offset now x → ReplayRound g level air now n i x ms y →
-      Each (λ (m : Made). m.late ≡ false) ms × IsPaceful g level air rows inside.offset now y
+  pub round_paceful : (now n i : ℕ) (x : ReplayState) (ms : List VisitRecord) (y : ReplayState) → n + i ≤ length g.platforms → IsSound g level rows i x → IsPaceful g level air rows inside.offset now x → ReplayRound g level air now n i x ms y →
+      Each (λ (m : VisitRecord). m.late ≡ false) ms × IsPaceful g level air rows inside.offset now y
   round_paceful now zero i x ms y le sound h (none, same) = (
-    subst (Each (λ (m : Made). m.late ≡ false)) (sym none) tt,
+    subst (Each (λ (m : VisitRecord). m.late ≡ false)) (sym none) tt,
     subst (IsPaceful g level air rows inside.offset now) (sym same) h,
   )
   round_paceful now (suc n) i x ms y le sound h round = ⊎_elim
@@ -73,7 +73,7 @@ module _ (g : Graph) (level : ℕ → ℕ) (air : Air) (rows : ℕ → List Row)
       let visit = visit_paceful g level air rows inside now i x one.1 one.3 sound one.6 from lt h in
       let after : IsSound g level rows (suc i) one.3 = sound_visit g level rows inside.wired inside.levels inside.fit air now i x one.1 one.3 sound one.6 from (suc i) (omega arith) (λ low. absurd (over one.1.platform i one.5 low)) in
       let on = round_paceful now n (suc i) one.3 one.2 y (omega (arith, le)) after visit.1 one.7 in
-      (subst (Each (λ (m : Made). m.late ≡ false)) (sym one.4) (visit.0, on.0), on.1))
+      (subst (Each (λ (m : VisitRecord). m.late ≡ false)) (sym one.4) (visit.0, on.0), on.1))
       round
     where
       over : (p i : ℕ) → p ≡ i → suc i ≤ p → ⊥
@@ -116,7 +116,7 @@ module _ (g : Graph) (level : ℕ → ℕ) (air : Air) (rows : ℕ → List Row)
           sums : (a b c d : ℕ) → a ≤ b → b ≤ c + d → a - c ≤ d
           sums a b c d p q = omega (arith, p, q)
 
-  rounds_paceful : (rounds : List (List Made)) (now end : ℕ) (x y : ReplayState) → IsSound g level rows 0 x → IsPaceful g level air rows inside.offset now x → ReplayRounds g level air now x rounds end y → IsPaceful g level air rows inside.offset end y
+  rounds_paceful : (rounds : List (List VisitRecord)) (now end : ℕ) (x y : ReplayState) → IsSound g level rows 0 x → IsPaceful g level air rows inside.offset now x → ReplayRounds g level air now x rounds end y → IsPaceful g level air rows inside.offset end y
   rounds_paceful [] now end x y sound h (e, same) = subst (λ t. IsPaceful g level air rows inside.offset t y) (sym e) (subst (IsPaceful g level air rows inside.offset now) (sym same) h)
   rounds_paceful (ms ∷ rounds) now end x y sound h (next, mid, round, fine, going, follows, rest) =
       let on : IsPaceful g level air rows inside.offset now mid = (round_paceful now (length g.platforms) 0 x ms mid (omega arith) sound h round).1 in
@@ -130,5 +130,5 @@ module _ (g : Graph) (level : ℕ → ℕ) (air : Air) (rows : ℕ → List Row)
       follows in
       rounds_paceful rounds next end mid y still risen rest
 
-  pub run_paceful : (rounds : List (List Made)) (now : ℕ) (y : ReplayState) → IsReplay g level air rows rounds now y → IsPaceful g level air rows inside.offset now y
+  pub run_paceful : (rounds : List (List VisitRecord)) (now : ℕ) (y : ReplayState) → IsReplay g level air rows rounds now y → IsPaceful g level air rows inside.offset now y
   run_paceful rounds now y run = rounds_paceful rounds run.begins now (replay_at_start g rows) y (sound_at_start g level rows) (start_paceful run.begins run.begins_at) run.goes

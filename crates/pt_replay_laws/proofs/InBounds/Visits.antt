@@ -15,7 +15,7 @@ use Rattle.pt_semantics.specs.Linked.{all_sent}
 use Rattle.pt_semantics.specs.Lists.{IsIn}
 use Rattle.pt_semantics.specs.Orderly.{InOrder}
 use Rattle.pt_semantics.specs.Rounds.{IsTimely}
-use Rattle.pt_semantics.specs.Visits.{Made}
+use Rattle.pt_semantics.specs.Visits.{VisitRecord}
 use Rattle.pt_semantics.proofs.Lookups.{Each-in, IsIn-append_right, same_some}
 use Rattle.pt_laws.proofs.Onward.{Advances, OnwardNear, advance_onward, cases_same}
 use Rattle.pt_types.specs.declared.air.Air.{Air}
@@ -28,7 +28,7 @@ use Rattle.pt_replay_laws.specs.InBounds.InBounds.{IsInBounds, without_arrivals}
 use Rattle.pt_replay_laws.proofs.InBounds.Ways.{IsInTime, clocks_are_near, due_on, order_front, put_in_time, taken_in_time}
 
 -- a visit is a turn at the platform's own reading
-pub visit_advances : (g : Graph) (level : ℕ → ℕ) (air : Air) (now : ℕ) (x : ReplayState) (m : Made) (y : ReplayState) → IsVisitAt g level air now x m y → Advances g level (reading_at air m.platform now) (without_arrivals x) m (without_arrivals y)
+pub visit_advances : (g : Graph) (level : ℕ → ℕ) (air : Air) (now : ℕ) (x : ReplayState) (m : VisitRecord) (y : ReplayState) → IsVisitAt g level air now x m y → Advances g level (reading_at air m.platform now) (without_arrivals x) m (without_arrivals y)
 visit_advances g level air now x m y f = record {
   single = single g level air now x m y f;
   last = f.visit.last;
@@ -46,7 +46,7 @@ pub record IsPaceful (g : Graph) (level : ℕ → ℕ) (air : Air) (rows : ℕ �
   pub onward : OnwardNear g level rows offset (λ i. reading_at air i now) (without_arrivals x)
   pub in_time : (l : ℕ) (link : Link) → slice_get g.links l ≡ Some link → IsInTime g air link (all_sent l (x.did (platform_of g link.from))) (x.airways l)
 
-module _ (g : Graph) (level : ℕ → ℕ) (air : Air) (rows : ℕ → List Row) (inside : IsInBounds g level air rows) (now n : ℕ) (x : ReplayState) (m : Made) (y : ReplayState) (sound : IsSound g level rows n x) (f : IsVisitAt g level air now x m y) (le : n ≤ m.platform) (lt : m.platform < length g.platforms) (h : IsPaceful g level air rows inside.offset now x) where
+module _ (g : Graph) (level : ℕ → ℕ) (air : Air) (rows : ℕ → List Row) (inside : IsInBounds g level air rows) (now n : ℕ) (x : ReplayState) (m : VisitRecord) (y : ReplayState) (sound : IsSound g level rows n x) (f : IsVisitAt g level air now x m y) (le : n ≤ m.platform) (lt : m.platform < length g.platforms) (h : IsPaceful g level air rows inside.offset now x) where
   own : Own g level m.platform (x.at m.platform) m.turn (y.at m.platform)
   own = own_turn g level rows inside.wired inside.levels inside.fit air now n x m y sound f le
 

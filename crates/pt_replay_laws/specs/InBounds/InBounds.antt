@@ -11,7 +11,7 @@ use Rattle.pt_semantics.specs.Parts.{parts}
 use Rattle.pt_semantics.specs.Platform.{opened}
 use Rattle.pt_semantics.specs.Ranks.{AreLevels}
 use Rattle.pt_semantics.specs.Rows.{FitRows}
-use Rattle.pt_semantics.specs.Visits.{Made, Together}
+use Rattle.pt_semantics.specs.Visits.{VisitRecord, RunState}
 use Rattle.pt_semantics.specs.Wired.{IsWired}
 use Rattle.pt_paced_laws.specs.NearClocks.{KeepsPace, OfMeaning}
 use Rattle.pt_types.specs.declared.air.Air.{Air}
@@ -31,20 +31,20 @@ pub record IsInBounds (g : Graph) (level : ℕ → ℕ) (air : Air) (rows : ℕ 
   pub bounds : KeepsBounds g air
 
 -- the platforms and the messages on their way, without their arrivals
-abbrev pub without_arrivals : ReplayState → Together
+abbrev pub without_arrivals : ReplayState → RunState
 without_arrivals x = record { at = x.at; did = x.did; on_way = under_way x }
 
 -- up to any point in any round no turn took a late message
 abbrev pub NoneIsLateInBounds : Type 0
-NoneIsLateInBounds = (g : Graph) (level : ℕ → ℕ) (air : Air) (rows : ℕ → List Row) (rounds : List (List Made)) (now n : ℕ) (ms : List Made) (y : ReplayState) →
+NoneIsLateInBounds = (g : Graph) (level : ℕ → ℕ) (air : Air) (rows : ℕ → List Row) (rounds : List (List VisitRecord)) (now n : ℕ) (ms : List VisitRecord) (y : ReplayState) →
     IsInBounds g level air rows → IsReplayInRound g level air rows rounds now n ms y →
-    Each (λ (m : Made). m.late ≡ false) ms × ((p : ℕ) → p < length g.platforms → LegalOnTime g level p (opened g p rows) (y.did p) (y.at p))
+    Each (λ (m : VisitRecord). m.late ≡ false) ms × ((p : ℕ) → p < length g.platforms → LegalOnTime g level p (opened g p rows) (y.did p) (y.at p))
 
 -- a platform with a fault has more firings of units in the meaning than it may claim
 abbrev pub FaultsInBoundsAreLong : Type 0
-FaultsInBoundsAreLong = (g : Graph) (level : ℕ → ℕ) (air : Air) (rows : ℕ → List Row) (rounds : List (List Made)) (now n : ℕ) (ms : List Made) (y : ReplayState) →
+FaultsInBoundsAreLong = (g : Graph) (level : ℕ → ℕ) (air : Air) (rows : ℕ → List Row) (rounds : List (List VisitRecord)) (now n : ℕ) (ms : List VisitRecord) (y : ReplayState) →
     IsInBounds g level air rows → IsReplayInRound g level air rows rounds now n ms y →
-    OfMeaning g rows (λ xs. Each (λ (m : Made). m.fault ≡ true → g.claims < unit_firings g m.platform (parts g xs)) ms)
+    OfMeaning g rows (λ xs. Each (λ (m : VisitRecord). m.fault ≡ true → g.claims < unit_firings g m.platform (parts g xs)) ms)
 
 -- a whole replayed run keeps the paced schedule, and does what the meaning does
 abbrev pub ReplaysInBoundsKeepPace : Type 0

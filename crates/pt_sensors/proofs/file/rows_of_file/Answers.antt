@@ -1,5 +1,5 @@
 use Rattle.std.proofs.Common.{Ok, Err, [], ◌∷◌, sym, subst}
-use Rattle.pt_io.specs.Calls.{Reading, reading}
+use Rattle.pt_io.specs.Calls.{SourceCall, reading}
 use Rattle.pt_sensors.specs.RowsOf.{rows_of}
 use Rattle.pt_sensors.proofs.Fetched.{rows_of-fetched}
 use Rattle.pt_sensors.specs.Asked.{AsksBy}
@@ -16,7 +16,7 @@ returns-in-Ok-read_rows-clause-rows g c =
 pub returns-clause-fault : goal.returns-clause-fault
 returns-clause-fault g c =
     let contents = g.S.Source.contents c.args.source.now in
-    let r : Reading = reading g.S.Source c.args.source.now c.fetch.new.self in
+    let r : SourceCall = reading g.S.Source c.args.source.now c.fetch.new.self in
     subst (λ f. CauseOfFile c.args.actor f contents c.args.name.now r) (sym c.fault_of_rows.ensures)
     (rows_fail contents c.args.actor c.args.name.now c.in-Err.fault r (λ other.
     of_content rows_of 8388609 rows_of-fetched (contents c.args.name.now) c.in-Ok.bytes.items (Err c.in-Err.fault) c.in-Ok.ensures.bytes (rw c.as_slice.ensures.value at (c.in-Err.ensures.rows other))))

@@ -1,6 +1,6 @@
 use Rattle.std.proofs.Common.{◌≡◌, ◌<◌, ◌≤◌, ◌+◌, ◌∙◌, refl, subst, sym, arith, is_ok, true, length, rules}
 use Rattle.std.proofs.lemmas.Result.{err_from_is_err_and}
-use Rattle.pt_io.specs.Calls.{Reading, reading}
+use Rattle.pt_io.specs.Calls.{SourceCall, reading}
 use Rattle.pt_sensors.specs.declared.sensor_rows.SensorRows.{SensorRows}
 use Rattle.pt_sensors.specs.Recorded.{RowsOfKind}
 use Rattle.pt_types.specs.Lookups.{kind_of}
@@ -26,7 +26,7 @@ pub returns-in_err-rows-clause-asks_up_to : goal.returns-in_err-rows-clause-asks
 returns-in_err-rows-clause-asks_up_to g c =
     let p = err_from_is_err_and c.from_residual.result c.from_residual.ensures.1 in
     let within : c.loop-number.number < length c.args.graph.now.actors = search rules in
-    let reading : Reading = reading g.S.Source c.loop-number.source c.rows_of_actor.new.source in
+    let reading : SourceCall = reading g.S.Source c.loop-number.source c.rows_of_actor.new.source in
     rw (p.1, p.2)
     (asks_up_to c.args.late (g.S.Source.contents c.loop-number.source) c.args.graph.now c.loop-number.number _ reading (g.S.Source.asked c.args.source.now) (g.S.Source.asked c.loop-number.source) (g.S.Source.asked c.rows_of_actor.new.source) within c.loop-number.invariant.asks
     c.in_err-rows.ensures.fault c.in_err-rows.ensures.asks_by)

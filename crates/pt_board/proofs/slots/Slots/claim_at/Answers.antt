@@ -2,7 +2,7 @@ use Rattle.std.proofs.Common.{◌≡◌, ℕ, ◌+◌, ◌*◌, ◌/◌, ◌<◌
 use Rattle.std.specs.Prelude.{MatchBool}
 use Rattle.atomic_table.specs.Table.{Me, Allows, step, rest}
 use mathlib.Core.Option.{none}
-use Rattle.pt_board.specs.declared.rule.Part.{Part}
+use Rattle.pt_board.specs.declared.rule.SlotView.{SlotView}
 use Rattle.pt_board.specs.declared.rule.View.{View}
 use Rattle.pt_board.specs.declared.table.Item.{Item}
 use Rattle.pt_board.specs.declared.table.Item.TheVariants.{Nothing, Placed}
@@ -55,5 +55,5 @@ load-requires c =
     let P : Me Item View → Type 0 = λ y. Allows (BoardRule c.args.self.now.table.shared.key) z.slots id y k (λ w. w) (gave_back (step z.slots k 0 0 none) y) in (
       u.0 ∙ x.0 ∙ l.0 ∙ c.requires.seat.0.0,
       omega (arith, c.args.self.now.sized.0, c.requires.slot),
-      subst P (sym e) (gives_back c.args.self.now.table.shared.key z.slots id V m1.1 Nothing k ((n * 4 + 1) / 4) h.0 c.requires.slot (a.2 ∙ c.requires.seat.1.0) (ap (λ (y : Part). y.mine) b.0) (ap (λ (y : Part). y.holds) b.0)),
+      subst P (sym e) (gives_back c.args.self.now.table.shared.key z.slots id V m1.1 Nothing k ((n * 4 + 1) / 4) h.0 c.requires.slot (a.2 ∙ c.requires.seat.1.0) (ap (λ (y : SlotView). y.mine) b.0) (ap (λ (y : SlotView). y.holds) b.0)),
     )

@@ -1,7 +1,7 @@
 use Rattle.std.proofs.Common.{◌≡◌, ℕ, ◌+◌, ◌*◌, ◌%◌, ◌<◌, eqb, eq-eqb, true, Bool, Some, [], ◌∷◌, List, length, refl, subst, ap, sym, ◌∙◌, arith}
 use mathlib.Core.Option.{none}
 use Rattle.atomic_table.specs.Table.{Me, Allows, step, rest}
-use Rattle.pt_board.specs.declared.rule.Part.{Part}
+use Rattle.pt_board.specs.declared.rule.SlotView.{SlotView}
 use Rattle.pt_board.specs.declared.rule.View.{View}
 use Rattle.pt_board.specs.declared.table.Item.{Item}
 use Rattle.pt_board.specs.declared.table.Item.TheVariants.{Nothing, Finished}
@@ -41,5 +41,5 @@ store-requires c =
     let P : Me Item View → Type 0 = λ y. Allows (BoardRule c.args.self.now.table.shared.key) z.slots id y k (λ _. c.args.number * 4) (λ _. put_free (step z.slots k (c.args.number * 4) 0 none) y) in (
       x.0 ∙ l.0 ∙ r.seat.0.0,
       omega (arith, c.args.self.now.sized.0, r.slot.0),
-      subst P (sym e) (puts_free c.args.self.now.table.shared.key z.slots id V [] Nothing k c.args.number r.out.1.0 r.slot.0 r.seat.1.0 (ap (λ (y : Part). y.out) o.0 ∙ r.out.1.1) (ap (λ (y : Part). y.holds) o.0)),
+      subst P (sym e) (puts_free c.args.self.now.table.shared.key z.slots id V [] Nothing k c.args.number r.out.1.0 r.slot.0 r.seat.1.0 (ap (λ (y : SlotView). y.out) o.0 ∙ r.out.1.1) (ap (λ (y : SlotView). y.holds) o.0)),
     )

@@ -1,7 +1,7 @@
 use Rattle.std.proofs.Common.{◌≡◌, ℕ, ◌+◌, ◌*◌, ◌<◌, true, Some, [], ◌∷◌, List, length, refl, subst, ap, sym, ◌∙◌, arith}
 use mathlib.Core.Option.{none}
 use Rattle.atomic_table.specs.Table.{Me, Allows, step, rest}
-use Rattle.pt_board.specs.declared.rule.Part.{Part}
+use Rattle.pt_board.specs.declared.rule.SlotView.{SlotView}
 use Rattle.pt_board.specs.declared.rule.View.{View}
 use Rattle.pt_board.specs.declared.table.Item.{Item}
 use Rattle.pt_board.specs.declared.table.Item.TheVariants.{Finished}
@@ -37,5 +37,5 @@ store-requires c =
     let P : Me Item View → Type 0 = λ y. Allows (BoardRule c.args.self.now.table.shared.key) z.slots id y k (λ _. n * 4 + 3) (λ _. put_done (step z.slots k (n * 4 + 3) 0 none) y) in (
       x.0 ∙ l.0 ∙ r.seat.0.0,
       omega (arith, c.args.self.now.sized.0, r.claimed.0),
-      subst P (sym e) (puts_done c.args.self.now.table.shared.key z.slots id V [] k n c.args.done r.claimed.0 r.seat.1.0 (ap (λ (y : Part). y.mine) o.0 ∙ r.claimed.2.0) (ap (λ (y : Part). y.holds) o.0) r.done.0 r.done.1 r.done.2),
+      subst P (sym e) (puts_done c.args.self.now.table.shared.key z.slots id V [] k n c.args.done r.claimed.0 r.seat.1.0 (ap (λ (y : SlotView). y.mine) o.0 ∙ r.claimed.2.0) (ap (λ (y : SlotView). y.holds) o.0) r.done.0 r.done.1 r.done.2),
     )

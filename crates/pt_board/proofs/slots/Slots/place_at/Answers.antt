@@ -1,7 +1,7 @@
 use Rattle.std.proofs.Common.{◌≡◌, ℕ, ◌+◌, ◌*◌, ◌<◌, true, [], ◌∷◌, List, length, subst, ap, sym, ◌∙◌, arith}
 use mathlib.Core.Option.{none}
 use Rattle.atomic_table.specs.Table.{Me, Allows, step, rest}
-use Rattle.pt_board.specs.declared.rule.Part.{Part}
+use Rattle.pt_board.specs.declared.rule.SlotView.{SlotView}
 use Rattle.pt_board.specs.declared.rule.View.{View}
 use Rattle.pt_board.specs.declared.table.Item.{Item}
 use Rattle.pt_board.specs.declared.table.Item.TheVariants.{Placed}
@@ -36,5 +36,5 @@ store-requires c =
     let P : Me Item View → Type 0 = λ y. Allows (BoardRule c.args.self.now.table.shared.key) z.slots id y k (λ _. c.args.number * 4 + 1) (λ _. put_ready (step z.slots k (c.args.number * 4 + 1) 0 none) y) in (
       x.0 ∙ l.0 ∙ r.seat.0.0,
       omega (arith, c.args.self.now.sized.0, r.slot.0),
-      subst P (sym e) (puts_ready c.args.self.now.table.shared.key z.slots id V [] k c.args.number t r.slot.0 r.seat.1.0 (ap (λ (y : Part). y.out) here ∙ r.slot.1) (ap (λ (y : Part). y.holds) here)),
+      subst P (sym e) (puts_ready c.args.self.now.table.shared.key z.slots id V [] k c.args.number t r.slot.0 r.seat.1.0 (ap (λ (y : SlotView). y.out) here ∙ r.slot.1) (ap (λ (y : SlotView). y.holds) here)),
     )
