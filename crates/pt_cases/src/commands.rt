@@ -1,12 +1,13 @@
 //! Commands over files in memory, and what each of them left.
 //!
 //! `file NAME LINES` gives a file these lines, which spaces separate; `fetch N` and `put N` let a call of the next command
-//! fail; `clock N READINGS` gives clock N of the next command these readings, of which it repeats the last; and any other
-//! line is a command.
+//! fail; `clock N READINGS` gives clock N of the next command these readings, of which it repeats the last; `puts COMMAND` lets
+//! each put of a command fail in turn; and any other line is a command.
 
 ghost use Rattle.std.specs.Prelude.{◌≡◌, IfOk, length};
 
 use crate::files::{Files, push_lines};
+use crate::puts::fail_each_put;
 use pt_blocks::Blocks;
 use pt_history::Miss;
 use pt_io::{ListClock, Page, Shelf};
@@ -73,6 +74,9 @@ impl CommandScript {
             self.set(alloc, clock)?;
             return Ok(String::new(alloc));
         }
+        if let Some(command) = line.strip_prefix("puts ") {
+            return fail_each_put(self, rt, alloc, command);
+        }
         self.run(rt, alloc, line)
     }
 
@@ -118,10 +122,22 @@ impl CommandScript {
         line: &str,
         pages: &mut Pages,
     ) -> Result<String, AllocError> {
+        let outcome = self.outcome(rt, alloc, line, pages)?;
+        report(alloc, line, pages, outcome)
+    }
+
+    /// Runs a command that writes to these pages.
+    pub(crate) fn outcome<R: Threads + Wait + Sync>(
+        &self,
+        rt: &R,
+        alloc: Global,
+        line: &str,
+        pages: &mut Pages,
+    ) -> Result<Outcome<ListClock>, AllocError> {
         let words = words(alloc, line)?;
         let clocks = clocks(alloc, self.clocks.as_slice())?;
         let mut source = self.source(alloc)?;
-        let outcome = ptides(
+        Ok(ptides(
             rt,
             alloc,
             words.as_slice(),
@@ -130,8 +146,7 @@ impl CommandScript {
             &mut pages.notes,
             clocks,
             &self.blocks,
-        );
-        report(alloc, line, pages, outcome)
+        ))
     }
 
     /// The files, with the call that fails.
@@ -146,13 +161,13 @@ impl CommandScript {
 
 /// Where a command writes.
 #[derive(Drop)]
-struct Pages {
-    out: Page,
-    notes: Page,
+pub(crate) struct Pages {
+    pub(crate) out: Page,
+    pub(crate) notes: Page,
 }
 
 /// Empty pages; this call of the first one fails.
-fn empty_pages(alloc: Global, put: Option<(u64, usize)>) -> Result<Pages, AllocError> {
+pub(crate) fn empty_pages(alloc: Global, put: Option<(u64, usize)>) -> Result<Pages, AllocError> {
     let notes = page(alloc, None)?;
     let out = page(alloc, put)?;
     Ok(Pages { out, notes })

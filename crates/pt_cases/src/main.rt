@@ -18,6 +18,7 @@ mod measure;
 mod meetings;
 mod plans;
 mod platforms;
+mod puts;
 mod readings;
 
 use commands::CommandScript;

@@ -1,7 +1,7 @@
-//! The outputs of a call: those of a run are made of its platforms, and put; and every text is put in blocks of whole lines, a log as
-//! it is made, the lines of misses at once.
+//! The outputs of a call: those of a run are made of its platforms, and put. Every text is put line by line, a log as it is made; the
+//! lines of misses are put on the notes at once.
 
-ghost use Rattle.std.specs.Prelude.{◌≡◌, ◌≢◌, ◌<◌, ◌≤◌, ◌++◌, IfErr, IfOk, None, OnErr, OnOk, flat_map, is_some, length, string_bytes};
+ghost use Rattle.std.specs.Prelude.{◌≡◌, ◌≢◌, ◌≤◌, ◌++◌, IfErr, IfOk, None, OnErr, OnOk, flat_map, is_some, string_bytes};
 ghost use Rattle.std.specs.Arc.{arc_value};
 ghost use Rattle.pt_io.specs.Calls.{writing};
 ghost use Rattle.pt_io.specs.Causes.{Appends, AppendsPart, Rose};
@@ -14,22 +14,18 @@ ghost use Rattle.pt_run.specs.Texts.{HasEnded, LeftAll, WroteRun};
 use crate::fault::{Fault, fault_of_turn};
 use crate::notes::{report, report_write};
 use crate::outcome::{Ending, Stopped};
-use memchr::memrchr;
 use pt_confluence::tables_of;
 use pt_engine::Rounds;
 use pt_history::Miss;
 use pt_io::{PutFault, Sink};
 use pt_monitors::missed;
 use pt_offsets::Plan;
-use pt_tables::{LogPage, miss_lines, platforms_hold, put_log};
+use pt_tables::{LogPage, miss_lines, platforms_hold, put_each_line, put_log};
 use pt_tags::Memory;
 use pt_turn::Platform;
 use pt_types::Graph;
 use std::alloc::Global;
 use std::sync::Arc;
-
-/// The most bytes that are put at once: as many as the buffer of the standard output holds.
-const MOST_AT_ONCE: usize = 65_536;
 
 /// The outputs of a run that finished: the parts of its text, its misses and their lines, and its platforms.
 #[derive(Drop)]
@@ -185,14 +181,14 @@ fn report_stop<E: Sink>(
     }
 }
 
-/// Puts a text in blocks of whole lines and flushes the sink.
+/// Puts a text line by line and flushes the sink.
 pub fn put_text<K: Sink>(out: &mut K, text: &[u8]) -> Result<(), PutFault>
     ensures all { OnOk result (Appends (K.written out.old) (K.written out.new) text.now) }
     ensures flushed { OnOk result (K.flushed out.new) }
     ensures part { OnErr result (AppendsPart (K.written out.old) (K.written out.new) text.now) }
     ensures failed { OnErr result (Rose (K.faults out.old) (K.faults out.new)) }
 {
-    put_blocks(out, text)?;
+    put_each_line(out, text)?;
     out.flush()
 }
 
@@ -212,7 +208,7 @@ fn put_run<K: Sink>(
         (tables.now ++ paged_log log platforms.now)) }
     ensures failed { OnErr result (Rose (K.faults out.old) (K.faults out.new)) }
 {
-    put_blocks(out, tables)?;
+    put_each_line(out, tables)?;
     put_paged(out, log, platforms)?;
     out.flush()
 }
@@ -247,33 +243,4 @@ fn put_whole<K: Sink>(out: &mut K, text: &[u8]) -> Result<(), PutFault>
         return Ok(());
     }
     out.put(text)
-}
-
-/// Puts a text in blocks of whole lines.
-fn put_blocks<K: Sink>(out: &mut K, text: &[u8]) -> Result<(), PutFault>
-    ensures all { OnOk result (Appends (K.written out.old) (K.written out.new) text.now) }
-    ensures part { OnErr result (AppendsPart (K.written out.old) (K.written out.new) text.now) }
-    ensures failed { OnErr result (Rose (K.faults out.old) (K.faults out.new)) }
-    ensures grows { K.faults out.old ≤ K.faults out.new }
-{
-    let mut rest = text;
-    while !rest.is_empty() {
-        let (block, more) = rest.split_at(block_len(rest));
-        out.put(block)?;
-        rest = more;
-    }
-    Ok(())
-}
-
-/// The length of the lines, with their line feeds, that the first block holds; that of the block if it holds no whole line.
-fn block_len(text: &[u8]) -> usize
-    requires { 0 < length text.now }
-    ensures some { 0 < result }
-    ensures within { result ≤ length text.now }
-{
-    let most = text.len().min(MOST_AT_ONCE);
-    match memrchr(b'\n', &text[..most]) {
-        Some(last) => last + 1,
-        None => most,
-    }
 }

@@ -44,7 +44,7 @@ use std::thread::Threads;
 /// Runs the command of these words, those after the program's name: `run GRAPH`, `check GRAPH`, `meaning GRAPH`,
 /// `make NUMBER`, `migrate GRAPH`, `slacks GRAPH`, `audit GRAPH LOG` or `replay GRAPH AIR`.
 ///
-/// Files are read from the source by name; `make` reads none. The text goes to `out`, in blocks of whole lines. After a fault,
+/// Files are read from the source by name; `make` reads none. The text goes to `out`, a line in each put. After a fault,
 /// one line on `notes` says why; after a run with misses, one line for each. In a run by the machine's clock platform i reads
 /// clock i of the 16 that are handed in; no other call reads them. `blocks` has the functions that actors may name.
 ///

@@ -9,3 +9,4 @@ pub mod Out
 pub mod Short
 pub mod TurnLists
 pub mod ShortNames
+pub mod Puts

@@ -1,8 +1,8 @@
 //! The texts that commands write: the tables of the actuators, the log of histories, the lines of misses, and the margins
 //! of a graph.
 //!
-//! Each text is built by functions that append one line; loops call them. The log, which is the longest, is put as it is made,
-//! by way of a page. Tables are defined in `specs/Tables.antt` of pt_semantics, the log in `specs/Log.antt` and
+//! Each text is built by functions that append one line; loops call them. A text is put line by line (`put_each_line`). The log, which
+//! is the longest, is put as it is made, by way of a page. Tables are defined in `specs/Tables.antt` of pt_semantics, the log in `specs/Log.antt` and
 //! `specs/Platforms.antt`, misses in `specs/Misses.antt`, margins in `specs/Margins.antt`.
 //!
 //! Read first: `tables`, `tables_of_meaning` and `ActorTables`, then `put_log`, `miss_lines` and `margins`.
@@ -10,6 +10,7 @@
 
 mod actor_tables;
 mod claim_end;
+mod each_line;
 mod held;
 mod line;
 mod lines;
@@ -32,6 +33,7 @@ mod turns;
 mod walk;
 
 pub use actor_tables::{ActorTables, has_table};
+pub use each_line::put_each_line;
 pub use held::holds;
 pub use lines::push_turn_line;
 pub use log_page::LogPage;

@@ -5,10 +5,10 @@ ghost use Rattle.std.specs.Prelude.{◌≡◌, ◌≤◌, [], vec_capacity};
 use crate::page::MOST_SHORT;
 use std::alloc::{AllocError, Global};
 
-/// How many bytes are put at once: as many as the buffer of the standard output holds, or some more.
-const MOST_AT_ONCE: usize = 65_536 + MOST_SHORT;
+/// How many bytes of lines are made before they are put.
+const ROOM: usize = 65_536 + MOST_SHORT;
 
-/// An empty page for the lines of a log that are put at once. It is made before the log is put, so that no memory is taken then.
+/// An empty page for the lines of a log. It is made before the log is put, so that no memory is taken then.
 #[derive(Drop)]
 pub struct LogPage {
     pub(crate) bytes: Vec<u8>,
@@ -19,7 +19,7 @@ pub struct LogPage {
 impl LogPage {
     /// An empty page.
     pub fn new(alloc: Global) -> Result<LogPage, AllocError> {
-        let bytes = Vec::with_capacity(alloc, MOST_AT_ONCE)?;
+        let bytes = Vec::with_capacity(alloc, ROOM)?;
         Ok(LogPage { bytes })
     }
 }

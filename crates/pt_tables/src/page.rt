@@ -4,6 +4,7 @@ ghost use Rattle.std.specs.Prelude.{◌≡◌, ◌+◌, ◌++◌, ◌≤◌, [],
 ghost use Rattle.pt_io.specs.Causes.{Appends, AppendsPart, Rose};
 ghost use Rattle.pt_tables.specs.Putting.{AreOut};
 
+use crate::each_line::put_each_line;
 use crate::line::LineBuffer;
 use pt_io::{PutFault, Sink};
 
@@ -24,7 +25,7 @@ pub(crate) fn append(page: &mut Vec<u8>, bytes: &[u8])
     }
 }
 
-/// Puts a page, which is empty then.
+/// Puts the lines of a page, which is empty then.
 pub(crate) fn put_page<K: Sink>(out: &mut K, page: &mut Vec<u8>) -> Result<(), PutFault>
     ensures all { OnOk result (Appends (K.written out.old) (K.written out.new) page.old.items) }
     ensures part { OnErr result (AppendsPart (K.written out.old)
@@ -35,7 +36,7 @@ pub(crate) fn put_page<K: Sink>(out: &mut K, page: &mut Vec<u8>) -> Result<(), P
     ensures none { OnOk result (vec_len page.new ≡ 0) }
     ensures capacity { vec_capacity page.new ≡ vec_capacity page.old }
 {
-    out.put(page.as_slice())?;
+    put_each_line(out, page.as_slice())?;
     page.clear();
     Ok(())
 }

@@ -11,7 +11,7 @@ returns-in_err-put_paged-clause-part g c =
     let residual = c.from_residual-in_err-put_paged in
     let p = err_from_is_err_and residual.result residual.ensures.1 in
     rw p.1
-    (part_next (g.K.Sink.written c.args.out.now) (g.K.Sink.written c.put_blocks.new.out) (g.K.Sink.written c.put_paged.new.out) c.args.tables.now (paged_log c.args.log c.args.platforms.now) c.in_ok-put_blocks.ensures.all
+    (part_next (g.K.Sink.written c.args.out.now) (g.K.Sink.written c.put_each_line.new.out) (g.K.Sink.written c.put_paged.new.out) c.args.tables.now (paged_log c.args.log c.args.platforms.now) c.in_ok-put_each_line.ensures.all
     c.in_err-put_paged.ensures.part)
 
 pub returns-clause-part : goal.returns-clause-part
@@ -19,7 +19,7 @@ returns-clause-part g c =
     let tables : List ℕ = c.args.tables.now in
     let log : List ℕ = paged_log c.args.log c.args.platforms.now in
     let before = g.K.Sink.written c.args.out.now in
-    let between = g.K.Sink.written c.put_blocks.new.out in
+    let between = g.K.Sink.written c.put_each_line.new.out in
     let now = g.K.Sink.written c.put_paged.new.out in
-    let put : Appends before now (tables ++ log) = appends_twice before between now tables log c.in_ok-put_blocks.ensures.all c.in_ok-put_paged.ensures.all in
+    let put : Appends before now (tables ++ log) = appends_twice before between now tables log c.in_ok-put_each_line.ensures.all c.in_ok-put_paged.ensures.all in
     on_err_weaker c.flush.result (λ (rose : Rose (g.K.Sink.faults c.put_paged.new.out) (g.K.Sink.faults c.flush.new.self)). kept_part before now (g.K.Sink.written c.flush.new.self) (tables ++ log) put c.flush.ensures.keeps) c.flush.ensures.failed

@@ -1,6 +1,6 @@
 use Rattle.std.proofs.Common.{◌≡◌, ◌≤◌, List, ℕ, ◌++◌, length}
 use Rattle.pt_io.specs.Causes.{Appends}
-use Rattle.pt_run.proofs.outputs.put_blocks.Given as goal
+use Rattle.pt_tables.proofs.each_line.put_each_line.Given as goal
 
 abbrev pub invariant-loop-rest : goal.invariant-loop-rest
 invariant-loop-rest g l = record {
