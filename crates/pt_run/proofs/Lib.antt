@@ -27,6 +27,7 @@ pub mod AgreeingInBounds
 pub mod PastRows
 pub mod AirFound
 pub mod Headline
+pub mod WritesTables
 pub mod CauseTable
 pub mod OneCause
 pub mod Exact

@@ -18,6 +18,7 @@ pub mod LawfulRuns
 pub mod Leaving
 pub mod Headline
 pub mod OverFiles
+pub mod WritesTables
 pub mod Exact
 pub mod RunsAgreeing
 pub mod CallsAgreeing
