@@ -116,7 +116,7 @@ class Recordings(Case):
         for unit, factor in (("s", 1), ("ms", 1000), ("us", 10**6), ("ns", 10**9)):
             done = self.table(f"t,v\n{1774745881 * factor},1\n", "--unit", unit, "--latency", "0", "--zero", "2026-03-29 02:58:00+02")
             self.assertEqual(done.output, iso.output, done.notes)
-            self.assertIn(", 2026-03-29T00:58:00Z\n", done.notes)
+            self.assertIn(", 2026-03-29T02:58:00+02:00\n", done.notes)
         (self.folder / "a.log").write_text("(1774745881.000000) can0 123#07\n")
         done = self.rows("candump", "a.log", "--id", "123", "--bytes", "0:1", "--latency", "0", "--zero", "2026-03-29T00:58:00Z")
         self.assertEqual(done.output, "time,seen,value\n1000000,1000000,7\n")
@@ -133,6 +133,8 @@ class Recordings(Case):
         self.assertFalse(zero.exists())
         self.table("t,v\n5,1\n", "--unit", "s", "--latency", "0", "--zero", "2", "--start", "2026-03-29T00:58:00Z", "-o", "level.csv")
         self.assertEqual(zero.read_text(), "2026-03-29T00:58:02Z\n")
+        self.table("t,v\n1774745885,1\n", "--unit", "s", "--latency", "0", "--zero", "2026-03-29T02:58:02+02:00", "-o", "level.csv")
+        self.assertEqual(zero.read_text(), "2026-03-29T02:58:02+02:00\n")
         shutil.copy(EXAMPLES / "canlog" / "drive.log", self.folder)
         self.rows("candump", "drive.log", "--id", "0A0", "--bytes", "0:2", "--order", "big", "--latency", "0", "-o", "speed.csv")
         self.assertEqual((self.folder / "speed.zero").read_text(), "2025-11-28T09:00:00Z\n")
@@ -259,7 +261,7 @@ class Recordings(Case):
             bits = [data[place // 8] >> (place % 8) & 1 for place in range(start, start + size)] if little else \
                    [data[place // 8] >> (7 - place % 8) & 1 for place in range(start, start + size)][::-1]
             number = sum(bit << place for place, bit in enumerate(bits)) - (bits[-1] << size if signed else 0)
-            self.assertEqual(Database(str(path)).signal("s", 1, False).number(data), number)
+            self.assertEqual(Fraction(*Database(str(path)).signal("s", 1, False).number(data)), number)
 
     def test_wrong_signals(self) -> None:
         """What isn't in the DBC file, or is there twice, is refused."""

@@ -3,9 +3,10 @@ from __future__ import annotations
 
 import re
 from dataclasses import dataclass
-from typing import Callable, Iterable, Iterator, NamedTuple, Optional
+from typing import Callable, Iterable, Iterator, NamedTuple, Optional, Union
 
 from ptides.program import Fault
+from ptides.ratios import Ratio
 from ptides.recordings.samples import Asked, Number, Sample, fault_at, lines_of
 
 FRAME = re.compile(r"\((\d+)\.(\d{6,9})\) (\S+) ([0-9A-Fa-f]{3}|[0-9A-Fa-f]{8})#(#[0-9A-Fa-f])?(R[0-9A-Fa-f]{0,2}|(?:[0-9A-Fa-f]{2})*)(?:_[0-9A-Fa-f])?(?: [RT])?\s*")
@@ -70,7 +71,7 @@ class Signal:
     name: str
     identifier: str
     needs: Callable[[bytes], int]
-    number: Callable[[bytes], Number]
+    number: Callable[[bytes], Union[Number, Ratio]]
 
 
 def asked_signal(asked: Asked) -> Signal:
@@ -94,11 +95,14 @@ def signal_samples(asked: Asked, frames: Iterable[Frame], signals: list[Signal])
     """The samples of several signals in one pass. Remote requests carry no value and are passed over."""
     wanted: dict[str, list[Signal]] = {}
     others: set[str] = set()
+    zero: Optional[int] = None
     for signal in signals:
         wanted.setdefault(signal.identifier, []).append(signal)
     for frame in frames:
         if asked.zero is None:
             asked.zero = frame.stamp // 10**9
+        if zero is None:
+            zero = int(asked.zero * 10**9)
         others.add(frame.identifier)
         if frame.identifier not in wanted or asked.bus not in (None, frame.bus):
             continue
@@ -109,13 +113,13 @@ def signal_samples(asked: Asked, frames: Iterable[Frame], signals: list[Signal])
         for signal in wanted[frame.identifier]:
             number = number_of(asked, signal, frame, data)
             if number is not None:
-                yield signal, Sample(frame.line, (frame.stamp - int(asked.zero * 10**9)) // 1000, number)
+                yield signal, Sample(frame.line, (frame.stamp - zero) // 1000, number)
     missing = next((identifier for identifier in wanted if identifier not in others), None)
     if missing:
         raise no_frame(asked.recording, missing, others)
 
 
-def number_of(asked: Asked, signal: Signal, frame: Frame, data: bytes) -> Optional[Number]:
+def number_of(asked: Asked, signal: Signal, frame: Frame, data: bytes) -> Union[Number, Ratio, None]:
     """The number of a signal in a frame."""
     needed = signal.needs(data)
     if len(data) < needed:

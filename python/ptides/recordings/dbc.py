@@ -9,6 +9,7 @@ from fractions import Fraction
 
 from ptides import companion
 from ptides.program import Fault
+from ptides.ratios import Linear
 from ptides.recordings.candump import Signal
 from ptides.recordings.samples import Number
 
@@ -107,8 +108,5 @@ class Database:
                 return selector.needed()
             return layout.needed() if selector is None or selector.number(data) == int(which[1]) else 0
 
-        def decode(data: bytes) -> Number:
-            bits = layout.number(data)
-            return bits * scale if raw else (bits * layout.factor + layout.offset) * scale
-
-        return Signal(wanted.split(".")[-1], text, needs, decode)
+        linear = Linear(scale, 0) if raw else Linear(layout.factor * scale, layout.offset * scale)
+        return Signal(wanted.split(".")[-1], text, needs, lambda data: linear.of(layout.number(data)))

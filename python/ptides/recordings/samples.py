@@ -6,6 +6,7 @@ from fractions import Fraction
 from typing import Iterator, NamedTuple, Optional, Union
 
 from ptides.program import Fault
+from ptides.ratios import Ratio
 
 # What was asked for: the words of the command line. What is found out on the way is added: `wall`, the wall time of 0 in seconds
 # since the start of 1970, if it is known; and `passed`, how many samples of which kind were passed over.
@@ -22,7 +23,7 @@ class Sample(NamedTuple):
 
     line: int
     seen: int
-    number: Number
+    number: Union[Number, Ratio]
     time: Optional[int] = None
 
 

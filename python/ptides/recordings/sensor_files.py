@@ -1,15 +1,15 @@
 """Sensor files: a row for each sample, with its time by a rule that was stated."""
 from __future__ import annotations
 
-from fractions import Fraction
+from decimal import Decimal
 from itertools import islice
-from math import floor
 from typing import Iterable, NamedTuple, Optional
 
 from ptides import wall_time
 from ptides.program import Fault
+from ptides.ratios import Linear
 from ptides.recordings.candump import text_of
-from ptides.recordings.samples import MOST_ROWS, MOST_SEEN, MOST_TIME, Asked, Number, Sample, fault_at, lines_of, place
+from ptides.recordings.samples import MOST_ROWS, MOST_SEEN, MOST_TIME, Asked, Sample, fault_at, lines_of, place
 
 LEAST_VALUE, MOST_VALUE = -(2**63), 2**63 - 1
 
@@ -31,17 +31,26 @@ def time_of(asked: Asked, sample: Sample) -> int:
     return time if asked.period is None else time - (time - asked.phase) % asked.period
 
 
-def value_of(asked: Asked, sample: Sample) -> int:
-    """The whole value of a row."""
-    value: Number = sample.number * asked.scale + asked.shift
-    if asked.round:
-        value = floor(abs(Fraction(value)) + Fraction(1, 2)) * (-1 if value < 0 else 1)
-    if value.denominator != 1:
-        shown = f"{float(value):.12g}"
-        raise fault_at(asked, sample.line, f"the value {shown} is not whole: choose another --scale, or --round")
-    if not LEAST_VALUE <= value <= MOST_VALUE:
-        raise fault_at(asked, sample.line, f"the value {value} does not fit 64 bits")
-    return int(value)
+class Values:
+    """The whole values of samples: the number times --scale, and --shift more."""
+
+    def __init__(self, asked: Asked):
+        self.asked, self.linear = asked, Linear(asked.scale, asked.shift)
+
+    def of(self, sample: Sample) -> int:
+        """The value of a sample."""
+        top, bottom = self.linear.of(sample.number)
+        if self.asked.round:
+            # Halves go away from 0.
+            whole, rest = (2 * abs(top) + bottom) // (2 * bottom) * (-1 if top < 0 else 1), 0
+        else:
+            whole, rest = divmod(top, bottom)
+        if not LEAST_VALUE <= whole <= MOST_VALUE:
+            shown = whole if abs(whole) < 10**40 else f"{Decimal(whole):.3e}"
+            raise fault_at(self.asked, sample.line, f"the value {shown} does not fit 64 bits")
+        if rest:
+            raise fault_at(self.asked, sample.line, f"the value {top / bottom:.12g} is not whole: choose another --scale, or --round")
+        return whole
 
 
 def check_row(asked: Asked, row: Row, before: Optional[Row]) -> None:
@@ -103,10 +112,11 @@ def better_rule(asked: Asked) -> str:
 def rows_of(asked: Asked, samples: Iterable[Sample]) -> list[Row]:
     """All rows, from --from to --to. If asked for it the last of several rows of one time is taken."""
     rows: list[Row] = []
+    values = Values(asked)
     for sample in samples:
         if not is_taken(asked, sample):
             continue
-        row = Row(sample.line, time_of(asked, sample), sample.seen, value_of(asked, sample))
+        row = Row(sample.line, time_of(asked, sample), sample.seen, values.of(sample))
         if asked.take_last and rows and row.time == rows[-1].time and row.seen >= rows[-1].seen:
             asked.passed["rows before the last of one time"] += 1
             rows.pop()

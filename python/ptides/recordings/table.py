@@ -5,11 +5,11 @@ import csv
 import re
 from fractions import Fraction
 from itertools import islice
-from math import floor
-from typing import Callable, Iterator
+from typing import Any, Iterator, Optional, Union
 
 from ptides import wall_time
 from ptides.program import Fault
+from ptides.ratios import MOST_DIGITS, Ratio, ratio_of
 from ptides.recordings.samples import UNITS, Asked, Sample, fault_at, lines_of
 
 # In how many lines names are looked for, to propose --preamble.
@@ -18,40 +18,57 @@ MOST_PREAMBLE = 200
 NO_NUMBERS = ("nan", "na", "n/a", "null", "none", "inf", "-inf", "-", "--", "bad", "no data")
 
 
-def number_of(asked: Asked, line: int, column: str, text: str) -> Fraction:
+def number_of(asked: Asked, line: int, column: str, text: str) -> Ratio:
     """The number in a cell."""
     plain = text.strip()
     if asked.decimal != ".":
         plain = plain.replace(asked.decimal, ".")
-    if not re.fullmatch(r"[+-]?(\d+\.?\d*|\.\d+)([eE][+-]?\d{1,3})?", plain):
+    found = ratio_of(plain)
+    if found is None:
+        if len(plain) > MOST_DIGITS:
+            raise fault_at(asked, line, f"column {column}: no number has more than {MOST_DIGITS} digits")
         better = f"; --missing {plain} passes over such cells" if plain.lower() in NO_NUMBERS else ""
         raise fault_at(asked, line, f"column {column}: `{text}` is no number{better}")
-    return Fraction(plain)
+    return found
 
 
-def stamp_reader(asked: Asked) -> Callable[[int, str, str], int]:
-    """What gives the microseconds after 0 of a cell. If no zero is stated for stamps of ISO 8601, it is the first one's whole second."""
-    unit = UNITS["s" if asked.unit == "iso" else asked.unit]
-    stamps: dict[str, wall_time.Stamps] = {}
+class StampReader:
+    """Gives the microseconds after 0 of a cell. If no zero is stated for stamps of ISO 8601, it is the first one's whole second."""
 
-    def stamp_of(line: int, column: str, text: str) -> Fraction:
-        if asked.unit != "iso":
-            if not re.search("[0-9]{4}-?[0-9]{2}-?[0-9]{2}[T ]", text):
-                return number_of(asked, line, column, text)
-            raise fault_at(asked, line, f"column {column}: `{text}` is no number; --unit iso reads stamps of ISO 8601")
+    def __init__(self, asked: Asked):
+        self.asked, self.is_iso = asked, asked.unit == "iso"
+        self.unit = UNITS["s" if self.is_iso else asked.unit]
+        # An hour that comes twice is told apart by the order in a column.
+        self.columns: dict[str, wall_time.Stamps] = {}
+        self.zero: Optional[Union[int, Fraction]] = asked.zero
+
+    def stamp(self, line: int, column: str, text: str) -> Ratio:
+        """The stamp in its unit."""
+        if not self.is_iso:
+            return self.number(line, column, text)
+        if column not in self.columns:
+            self.columns[column] = wall_time.Stamps(self.asked.zone)
         try:
-            # An hour that comes twice is told apart by the order in a column.
-            return stamps.setdefault(column, wall_time.Stamps(asked.zone)).seconds(text)
+            return self.columns[column].ratio(text)
         except Fault as fault:
-            raise fault_at(asked, line, f"column {column}: {fault}") from fault
+            raise fault_at(self.asked, line, f"column {column}: {fault}") from fault
 
-    def microseconds(line: int, column: str, text: str) -> int:
-        stamp = stamp_of(line, column, text)
-        if asked.zero is None:
-            asked.zero = Fraction(floor(stamp)) if asked.unit == "iso" else Fraction(0)
-        return floor((stamp - asked.zero) * unit)
+    def number(self, line: int, column: str, text: str) -> Ratio:
+        """A stamp that is a number."""
+        try:
+            return number_of(self.asked, line, column, text)
+        except Fault as fault:
+            if not re.search("[0-9]{4}-?[0-9]{2}-?[0-9]{2}[T ]", text):
+                raise
+            raise fault_at(self.asked, line, f"column {column}: `{text}` is no number; --unit iso reads stamps of ISO 8601") from fault
 
-    return microseconds
+    def microseconds(self, line: int, column: str, text: str) -> int:
+        """The microseconds from 0 on, cut to whole ones."""
+        top, bottom = self.stamp(line, column, text)
+        if self.zero is None:
+            self.zero = self.asked.zero = Fraction(top // bottom if self.is_iso else 0)
+        zero, unit = self.zero, self.unit
+        return (top * zero.denominator - zero.numerator * bottom) * unit.numerator // (bottom * zero.denominator * unit.denominator)
 
 
 def columns_of(asked: Asked) -> list[str]:
@@ -74,23 +91,40 @@ def check_columns(asked: Asked, names: list[str]) -> None:
 
 def is_missing(asked: Asked, text: str) -> bool:
     """Whether a cell has no value; counts it."""
-    what = "empty cells" if not text.strip() else f"cells `{text.strip()}`" if text.strip().lower() in asked.missing else ""
-    asked.passed.update([what] if what else [])
-    return bool(what)
+    plain = text.strip()
+    if plain and plain.lower() not in asked.missing:
+        return False
+    asked.passed[f"cells `{plain}`" if plain else "empty cells"] += 1
+    return True
+
+
+def records_of(asked: Asked) -> Iterator[tuple[int, list[Any]]]:
+    """The records after the line of names, each with its line, and its cells in the order of `columns_of`; `None` is a cell that isn't there."""
+    lines = (text for _, text in islice(lines_of(asked.recording), asked.preamble, None))
+    reader = csv.reader(lines, delimiter=asked.delimiter, strict=True)
+    try:
+        names = next(reader, [])
+        check_columns(asked, names)
+        # Of several columns of one name the last counts.
+        places = {name: place for place, name in enumerate(names)}
+        wanted = [places[column] for column in columns_of(asked)]
+        least = max(wanted) + 1
+        for record in islice(filter(None, reader), asked.skip, None):
+            cells = record if len(record) >= least else [*record, *[None] * (least - len(record))]
+            yield asked.preamble + reader.line_num, [cells[place] for place in wanted]
+    except csv.Error as fault:
+        raise fault_at(asked, asked.preamble + reader.line_num, f"no CSV: {fault}") from fault
 
 
 def csv_samples(asked: Asked) -> Iterator[Sample]:
     """Each record that has a value in the asked column."""
-    lines = (text for _, text in islice(lines_of(asked.recording), asked.preamble, None))
-    reader = csv.DictReader(lines, delimiter=asked.delimiter, strict=True)
-    microseconds = stamp_reader(asked)
-    try:
-        check_columns(asked, list(reader.fieldnames or []))
-        for record in islice(reader, asked.skip, None):
-            if any(record[column] != wanted for column, wanted in asked.where) or is_missing(asked, record[asked.value] or ""):
-                continue
-            line = asked.preamble + reader.line_num
-            seen, *times = (microseconds(line, column, record[column] or "") for column in (asked.stamp, asked.time) if column is not None)
-            yield Sample(line, seen, number_of(asked, line, asked.value, record[asked.value]), *times)
-    except csv.Error as fault:
-        raise fault_at(asked, asked.preamble + reader.line_num, f"no CSV: {fault}") from fault
+    microseconds = StampReader(asked).microseconds
+    texts = [text for _, text in asked.where]
+    for line, (stamp, value, *others) in records_of(asked):
+        time = None if asked.time is None else others.pop(0)
+        # What is left are the cells of --where.
+        if others != texts or is_missing(asked, value or ""):
+            continue
+        seen = microseconds(line, asked.stamp, stamp or "")
+        times = () if asked.time is None else (microseconds(line, asked.time, time or ""),)
+        yield Sample(line, seen, number_of(asked, line, asked.value, value), *times)
