@@ -1,22 +1,20 @@
 #!/usr/bin/env python3
-"""Checks what `ptides rows` does with stamps of ISO 8601, zeros, cells without values, rows of one time, phases, and files of CAN."""
+"""Checks what `ptides rows` does with stamps of ISO 8601, zeros, cells without values, and files of CAN."""
 from __future__ import annotations
 
 import random
 import shutil
 import subprocess
 import sys
-import tempfile
 from datetime import datetime, timedelta, timezone
 from fractions import Fraction
-from pathlib import Path
 
-from counted import EXAMPLES, TOP, Case, Done, companion, main, run
+from counted import EXAMPLES, TOP, main, run
+from recorded_tables import Tables
 
 sys.path.insert(0, str(TOP / "python"))
 from ptides import wall_time  # noqa: E402
 from ptides.program import Fault  # noqa: E402
-from ptides.recordings import sensor_files  # noqa: E402
 from ptides.recordings.dbc import Database  # noqa: E402
 
 DBC = """VERSION ""
@@ -37,25 +35,8 @@ SIG_VALTYPE_ 2566844674 level : 1;
 """
 
 
-class Recordings(Case):
+class Recordings(Tables):
     """Rows of small recordings, in a folder of their own."""
-
-    def setUp(self) -> None:
-        self.folder = Path(tempfile.mkdtemp())
-        self.addCleanup(shutil.rmtree, self.folder)
-
-    def rows(self, *words: str) -> Done:
-        """Runs `rows` in the folder."""
-        return companion("rows", *words, folder=self.folder)
-
-    def table(self, text: str, *words: str) -> Done:
-        """Rows of a table whose stamps are in the column t and values in the column v."""
-        (self.folder / "t.csv").write_text(text)
-        return self.rows("csv", "t.csv", "--stamp", "t", "--value", "v", *words)
-
-    def refuses(self, done: Done, line: str) -> None:
-        """One line, status 1, and no output."""
-        self.assertEqual((done.status, done.output, done.notes), (1, "", f"ptides rows: {line}\n"))
 
     # ---- stamps and zeros
 
@@ -174,42 +155,6 @@ class Recordings(Case):
         self.assertEqual(done.output, "time,seen,value\n1000000,1000000,5\n2000000,2000000,6\n")
         done = self.table(text.replace("x", "6"), "--unit", "s", "--latency", "0", "--preamble", "3", "--skip", "1", "--row", "2")
         self.assertEqual(done.output, "row 2: time 2000000, seen 2000000, value 6\nt.csv:7: 2,6\n")
-
-    # ---- rows of one time, and phases
-
-    def test_last_of_one_time(self) -> None:
-        """--last takes the last of several rows of one time, and counts the others; also of two edges in one microsecond."""
-        done = self.table("t,v\n100,1\n150,2\n199,3\n200,4\n", "--unit", "us", "--period", "100", "--phase", "0", "--last")
-        self.assertEqual(done.output, "time,seen,value\n100,199,3\n200,200,4\n")
-        self.assertIn("passed over: rows before the last of one time 2\n", done.notes)
-        (self.folder / "e.vcd").write_text("$timescale 100ns $end $var wire 1 ! a $end $enddefinitions $end\n#10 1!\n#14 0!\n#30 1!\n")
-        words = ("vcd", "e.vcd", "--signal", "a", "--latency", "0")
-        self.refuses(self.rows(*words), "e.vcd:3: two rows of one time: 1 is also the time of line 2; --last takes the last of them")
-        self.assertEqual(self.rows(*words, "--last").output, "time,seen,value\n1,1,0\n3,3,1\n")
-
-    def test_a_phase_is_proposed(self) -> None:
-        """A period without a phase, and two rows of one time, name the phases that fit."""
-        text = "t,v\n" + "".join(f"{1000 * number + 300 + wait},1\n" for number, wait in enumerate((0, 90, 400, 30, 250), 1))
-        self.refuses(self.table(text, "--unit", "us", "--period", "1000"), "--period and --phase go together: --phase 0 gives each row a time of its own "
-                     "(as do those from -299 to 300)")
-        self.refuses(self.table(text, "--unit", "us", "--period", "1000", "--phase", "500"),
-                     "t.csv:5: two rows of one time: 3500 is also the time of line 4; --phase 0 gives each row a time of its own (as do those from -299 to 300), "
-                     "and --last takes the last of them")
-        self.assertEqual(self.table(text, "--unit", "us", "--period", "1000", "--phase", "0").status, 0)
-        self.refuses(self.table("t,v\n1,1\n2,1\n3,1\n", "--unit", "us", "--period", "1000"), "--period and --phase go together")
-
-    def test_proposed_phases_fit(self) -> None:
-        """Of random stamps with jitter all phases that are proposed give each row a time of its own, and no other does."""
-        random.seed(3)
-        for _ in range(200):
-            period, jitter, start = random.randrange(10, 60), random.randrange(1, 50), random.randrange(0, 100)
-            stamps = [start + period * number + random.randrange(jitter) for number in range(8)]
-            found = sensor_files.phases(stamps, period, 0)
-            fit = [phase for phase in range(period) if len({(stamp - phase) // period for stamp in stamps}) == len(stamps)]
-            self.assertTrue(found is None or set(phase % period for phase in found) <= set(fit))
-            self.assertTrue(found is not None or jitter > 1)
-            if jitter < period // 2:
-                self.assertIn(start % period, set(phase % period for phase in found))
 
     # ---- files of CAN
 

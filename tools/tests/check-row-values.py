@@ -5,17 +5,15 @@ from __future__ import annotations
 import argparse
 import datetime
 import random
-import shutil
 import sys
-import tempfile
 from collections import Counter
 from fractions import Fraction
 from math import floor
-from pathlib import Path
 from typing import Any, Iterator
 from unittest import mock
 
-from counted import TOP, Case, Done, companion, main
+from counted import TOP, main
+from recorded_tables import Tables
 
 sys.path.insert(0, str(TOP / "python"))
 from ptides import wall_time  # noqa: E402
@@ -42,18 +40,12 @@ def rounded(value: Fraction) -> int:
     return floor(abs(value) + Fraction(1, 2)) * (-1 if value < 0 else 1)
 
 
-class RowValues(Case):
+class RowValues(Tables):
     """Tables, in a folder of their own."""
 
     def setUp(self) -> None:
+        super().setUp()
         random.seed(11)
-        self.folder = Path(tempfile.mkdtemp())
-        self.addCleanup(shutil.rmtree, self.folder)
-
-    def table(self, text: str, *words: str) -> Done:
-        """Rows of a table whose stamps are in the column t and values in the column v."""
-        (self.folder / "t.csv").write_text(text)
-        return companion("rows", "csv", "t.csv", "--stamp", "t", "--value", "v", *words, folder=self.folder)
 
     def test_values(self) -> None:
         """Numbers with signs, exponents, long fractions and halves are scaled, shifted and rounded as fractions are."""

@@ -86,6 +86,21 @@ def phases(stamps: list[int], period: int, latency: int) -> Optional[range]:
     return range(last - length + 1, last + 1) if len(times) == len(stamps) else None
 
 
+def bound_with(stamps: list[int], period: int, phase: int, latency: int) -> int:
+    """The bound that these stamps need with a phase."""
+    return latency + max((stamp - latency - phase) % period for stamp in stamps)
+
+
+def least_bound(asked: Asked, stamps: list[int], bound: int) -> str:
+    """The phase that needs the least bound of all that fit; nothing if that isn't much less than another bound."""
+    found = phases(stamps, asked.period, asked.latency or 0) if stamps else None
+    if found is None:
+        return ""
+    phase = found[-1] % asked.period
+    least = bound_with(stamps, asked.period, phase, asked.latency or 0)
+    return f"with --phase {phase} a bound of {least} is enough, instead of {bound}" if 2 * least <= bound else ""
+
+
 def proposal(asked: Asked, period: int) -> str:
     """Which phases give each row a time of its own; nothing if there is none, or if the recording can be read only once."""
     asked.passed.clear()
@@ -99,8 +114,10 @@ def proposal(asked: Asked, period: int) -> str:
     # A phase and one that is a period less are the same; the smaller ones are shown.
     more = period if found[-1] >= period else 0
     low, high = found[0] - more, found[-1] - more
+    phase = 0 if low <= 0 <= high else high
     others = f" (as do those from {low} to {high})" if low < high else ""
-    return f"--phase {0 if low <= 0 <= high else high} gives each row a time of its own{others}"
+    better = least_bound(asked, stamps, bound_with(stamps, period, phase, asked.latency or 0))
+    return f"--phase {phase} gives each row a time of its own{others}" + (f"; {better}" if better else "")
 
 
 def better_rule(asked: Asked) -> str:
@@ -148,6 +165,8 @@ def report(asked: Asked, rows: list[Row]) -> str:
     if len(rows) > 1:
         before, after = max(zip(rows, rows[1:]), key=lambda pair: pair[1].time - pair[0].time)
         lines.append(f"longest time between two rows: {after.time - before.time}, before {place(asked, after.line)}")
+    better = least_bound(asked, [row.seen for row in rows], waits[-1]) if asked.period else ""
+    lines += [better] if better else []
     if asked.passed:
         lines.append("passed over: " + ", ".join(f"{what} {count}" for what, count in asked.passed.items()))
     return "\n".join([*lines, f"this recording needs a bound of {waits[-1]}"]) + "\n"
