@@ -11,19 +11,24 @@ from ptides import misses
 from ptides.scenarios import Outcome, Scenario
 
 
+def missed_of(outcome: Outcome) -> str:
+    """The summary of the misses in what a scenario gave, if there are many."""
+    return misses.note(outcome.files.get("expected.notes", "")).rstrip("\n")
+
+
 def tap_of(number: int, scenario: Scenario, outcome: Outcome) -> str:
     """The lines of TAP for one scenario; the values in it are JSON, which YAML reads."""
     name = scenario.name.replace("#", "\\#").replace("\n", "\\n")
     if not outcome.message():
         return f"ok {number} - {name}\n"
-    parts: dict[str, Any] = {"message": outcome.message()}
+    many = missed_of(outcome)
+    # What sums up comes before the first of many lines.
+    parts: dict[str, Any] = {**({"missed": many} if many else {}), "message": outcome.message()}
     if outcome.error:
         parts["severity"] = "error"
     else:
         found = outcome.difference
         parts.update({"file": found.file, "line": found.line, "expected": found.expected, "found": found.found})
-        many = misses.note(outcome.files["expected.notes"]).rstrip("\n")
-        parts.update({"missed": many} if many else {})
     return f"not ok {number} - {name}\n  ---\n" + "".join(f"  {key}: {json.dumps(value)}\n" for key, value in parts.items()) + "  ...\n"
 
 
@@ -44,10 +49,12 @@ def junit_of(done: list[tuple[Scenario, Outcome]]) -> str:
         # `.` has no last part.
         name = path.name or scenario.name
         case = f"<testcase classname={quoteattr(plain(str(path.parent)))} name={quoteattr(plain(name))} time=\"{outcome.seconds:.3f}\""
-        message, kind = plain(outcome.message()), "error" if outcome.error else "failure"
-        if message:
+        if outcome.message():
+            kind, first = "error" if outcome.error else "failure", [missed_of(outcome)] if missed_of(outcome) else []
+            message = plain("; ".join([*first, outcome.message()]))
+            notes = plain("\n".join([*first, outcome.files.get("expected.notes", "")]))
             lines.append(f"{case}><{kind} message={quoteattr(message)}>{escape(message)}</{kind}>")
-            lines.append(f"<system-err>{escape(plain(outcome.files.get('expected.notes', '')))}</system-err></testcase>")
+            lines.append(f"<system-err>{escape(notes)}</system-err></testcase>")
         else:
             lines.append(case + "/>")
     return "\n".join([*lines, "</testsuite>", "</testsuites>"]) + "\n"

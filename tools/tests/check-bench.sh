@@ -187,16 +187,21 @@ check_errors() {
     equal "no end" '1 1' "$? $(grep -c '<error message="no end within 0.2 seconds"' ended.xml)"
 }
 
-# Of many misses there is one line that sums them up.
+# Of many misses there is one line that sums them up, before the first of them, in both reports.
 check_misses() {
     rm -rf many
     copy "$top/examples/missed" many
     { echo time,seen,value; seq -f '%.0f' 1000 1000 60000 | sed 's/.*/&,&,90/'; } >many/pressure.csv
     sed -i 's/"until":[0-9]*/"until":70000/' many/graph.json
     rm -f many/expected.* many/status
-    "$bench" many >found
+    "$bench" many --junit many.xml >found
     equal "many misses: a summary" "$(grep -c '^missed' <(cd many && "$PTIDES" run graph.json 2>&1)) events were missed, all by \`valve\`" \
         "$(sed -n 's/^  missed: "\(.*\); the first at .*/\1/p' found)"
+    equal "many misses: before the message" "missed message file" "$(sed -n 's/^  \(missed\|message\|file\): .*/\1/p' found | paste -sd ' ')"
+    summary=$(sed -n 's/^  missed: "\(.*\)"$/\1/p' found)
+    is_there xmllint || { skip "the summary in JUnit, since there is no xmllint"; return; }
+    equal "many misses: JUnit's message" "$summary; status line 1: " "$(xmllint --xpath 'string(//failure/@message)' many.xml | sed 's/\(status line 1: \).*/\1/')"
+    equal "many misses: JUnit's lines" "$summary missed" "$(xmllint --xpath 'string(//system-err)' many.xml | sed -n '1p;2s/ .*//p' | paste -sd ' ')"
 }
 
 # A program that takes a second, and counts how many of it run at a time.
