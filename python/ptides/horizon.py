@@ -1,9 +1,12 @@
-"""How long a run may be: the horizon up to which no platform makes more firings than a run may have."""
+"""How long a run may be: the horizon up to which no platform makes more firings than a run may have, and in how many parts a longer recording goes.
+
+A part has a zero of its own, so the ticks of `every` and the rows of sensors count from its start.
+"""
 from __future__ import annotations
 
 import csv
 import json
-from bisect import bisect_right
+from bisect import bisect_left, bisect_right
 from collections import Counter
 from typing import Any, NamedTuple, Optional
 
@@ -11,15 +14,25 @@ from ptides import program
 
 # How many firings a run may have on one platform.
 MOST_FIRINGS = 200_000
+# Parts are of whole seconds, if they have this many microseconds or more.
+LONG_PART, SECOND = 10**7, 10**6
 UNITS = [("h", 3_600_000_000), ("min", 60_000_000), ("s", 1_000_000), ("ms", 1000), ("us", 1)]
 
 
+class Parts(NamedTuple):
+    """How many parts of which length a recording has, so that each fits."""
+
+    number: int
+    length: int
+
+
 class Horizon(NamedTuple):
-    """A horizon that fits, and the platform that has the most firings up to it."""
+    """A horizon that fits, the platform that has the most firings up to it, and the parts of the recording, if it has rows."""
 
     until: int
     platform: str
     firings: int
+    parts: Optional[Parts] = None
 
 
 def duration(time: int) -> str:
@@ -40,10 +53,24 @@ class Sources:
         self.clocks = [(actor["start"], actor["period"]) for actor in graph["actors"] if actor["kind"] == "every"]
         self.rows = sorted(time for actor in graph["actors"] if actor["kind"] == "sensor" for time in times_of(actor["file"]))
 
+    def ticks(self, time: int) -> int:
+        """How many ticks come up to a time."""
+        return sum((time - start) // period + 1 for start, period in self.clocks if start <= time)
+
     def count(self, time: int) -> int:
         """How many events come up to a time."""
-        ticks = sum((time - start) // period + 1 for start, period in self.clocks if start <= time)
-        return ticks + bisect_right(self.rows, time)
+        return self.ticks(time) + bisect_right(self.rows, time)
+
+    def parts(self, most: int) -> Optional[Parts]:
+        """The fewest parts of one length with at most that number of events each."""
+        span = min(self.until, self.rows[-1]) + 1 if self.rows else 0
+        for number in range(2, len(self.rows) + 1):
+            length = -(-span // number)
+            length = -(-length // SECOND) * SECOND if length >= LONG_PART else length
+            edges = [bisect_left(self.rows, start) for start in range(0, span + length, length)]
+            if max(end - start for start, end in zip(edges, edges[1:])) + self.ticks(length - 1) <= most:
+                return Parts(len(edges) - 1, length)
+        return None
 
     def time_of(self, number: int) -> int:
         """The greatest time, up to the horizon of the graph, up to which no more events come than that number."""
@@ -100,4 +127,24 @@ def search(graph: dict[str, Any], sources: Sources) -> Optional[Horizon]:
         platform, most = counts.most_common(1)[0] if counts else (graph["platforms"][0], 0)
         best, fits = Horizon(until, platform, most), sources.count(until)
         guess = MOST_FIRINGS * max(1, fits) // max(1, most)
-    return best
+    return best and best._replace(parts=sources.parts(fits))
+
+
+def advice(graph: dict[str, Any]) -> list[str]:
+    """What helps against a run that is too long: the horizon that fits, the parts in which the recording goes, and what makes fewer firings."""
+    found, until = longest(graph), graph["until"]
+    if found is None:
+        return ["lower `until`, raise periods, or give fewer rows"]
+    lines = [f"lower `until` from {until} ({duration(until)}) to {found.until} ({duration(found.until)}): then `run` makes {found.firings:,} firings on `{found.platform}`"]
+    if found.parts:
+        number, length = found.parts
+        lines.append(f"or take the recording in {number} parts of {duration(length)}: `rows` with a --zero for each, `--from 0 --to {length - 1}`, and {length - 1} as "
+                     "`until` (docs/RECORDINGS.md, Long recordings)")
+    return [*lines, "or raise periods, give fewer rows, or leave actors out, probes too"]
+
+
+def with_advice(refused: program.Refused, graph: dict[str, Any], companion: str) -> program.Refused:
+    """The refusal; of a run that is too long its notes go on with what helps, as said by a companion."""
+    if refused.status == 6:
+        refused.notes += "".join(f"ptides {companion}: {line}\n" for line in advice(graph))
+    return refused

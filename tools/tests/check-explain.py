@@ -257,34 +257,6 @@ class Explain(Case):
                     self.assertTrue(done.output.startswith(f"error: {program.notes}"), done.output)
                     self.assertTrue(first_place(done.output)[0], done.output)
 
-    def test_which_horizon_fits(self) -> None:
-        """Of a run that is too long the horizon that fits, by which the program then goes; with more than that it refuses."""
-        actors = [{"name": "level", "platform": "tank", "kind": "sensor", "file": "level.csv", "bound": 9}]
-        actors += [{"name": f"by_{number}", "platform": "tank", "kind": "shift", "by": 1} for number in range(13)]
-        actors.append({"name": "out", "platform": "tank", "kind": "actuator", "slack": 10})
-        wires = [[start["name"], 0, end["name"], 0] for start, end in zip(actors, actors[1:])]
-        graph = {"ptides": 1, "until": 86_400_000_000, "clock_error": 0, "platforms": ["tank"], "actors": actors, "wires": wires, "links": []}
-        (self.folder / "level.csv").write_text("time,seen,value\n" + "".join(f"{second}000000,{second}000005,1\n" for second in range(86_400)))
-        (self.folder / "graph.json").write_text(json.dumps(graph))
-        done = companion("explain", "graph.json", folder=self.folder)
-        # 13,333 events of 15 firings each are 199,995.
-        self.assertIn("lower `until` from 86400000000 (24 h) to 13332999999 (3 h 42 min): then `run` makes 199,995 firings on `tank`", done.output)
-        for until, status in ((13_332_999_999, 0), (13_333_000_000, 6)):
-            (self.folder / "graph.json").write_text(json.dumps({**graph, "until": until}))
-            self.assertEqual(ptides("run", "graph.json", folder=self.folder).status, status)
-
-    def test_a_horizon_of_growing_firings(self) -> None:
-        """If later events make more firings than earlier ones, a horizon that fits is found still."""
-        actors = [{"name": "e", "platform": "p", "kind": "every", "start": 0, "period": 10_000}, {"name": "m", "platform": "p", "kind": "merge", "n": 3},
-                  {"name": "d", "platform": "p", "kind": "delay", "d": 507}, {"name": "f", "platform": "p", "kind": "delay", "d": 3331},
-                  {"name": "out", "platform": "p", "kind": "actuator", "slack": 10}]
-        wires = [["e", 0, "m", 0], ["m", 0, "d", 0], ["d", 0, "m", 1], ["m", 0, "f", 0], ["f", 0, "m", 2], ["m", 0, "out", 0]]
-        graph = {"ptides": 1, "until": 10**8, "clock_error": 0, "platforms": ["p"], "actors": actors, "wires": wires, "links": []}
-        done = companion("explain", "/dev/stdin", folder=self.folder, given=json.dumps(graph))
-        until = int(re.search(r" to (\d+) \(", done.output)[1])
-        self.assertEqual(ptides("run", "/dev/stdin", folder=self.folder, given=json.dumps({**graph, "until": until})).status, 0)
-        self.assertEqual(ptides("run", "/dev/stdin", folder=self.folder, given=json.dumps({**graph, "until": 2 * until})).status, 6)
-
     def test_lines_that_do_not_hold(self) -> None:
         """A line on a row that isn't late, isn't out of order or was another one, and on an event that wasn't missed, isn't explained."""
         folder = EXAMPLES / "refused" / "late_row"

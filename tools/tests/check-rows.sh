@@ -16,7 +16,7 @@ rows_are() {
     local what=$1 wanted=$2
     shift 2
     equal "$what" "time,seen,value $wanted" "$("$rows" "$@" 2>&1 >rows.out | grep -v -e '^[0-9]* rows, ' -e '^seen - time' -e '^longest' \
-        -e '^this recording' -e '^passed over'; tr '\n' ' ' <rows.out | sed 's/ $//')"
+        -e '^this recording' -e '^passed over' -e '^with --phase'; tr '\n' ' ' <rows.out | sed 's/ $//')"
 }
 
 check_the_example() {
@@ -266,7 +266,8 @@ check_refusals() {
     refuses_dump "no value" ':2: b12 is no value' '$timescale 1us $end $var wire 8 ! a $end $enddefinitions $end\n#1 b12 !\n'
     refuses_dump "no value of it" ': no value is in it, or none from --from to --to' '$timescale 1us $end $var wire 8 ! a $end $enddefinitions $end\n#1 bx !\n'
     python3 -c 'for n in range(100001): print(f"({n // 1000000 + 1}.{n % 1000000:06}) can0 123#00")' >bad.log
-    refuses "too many rows" 'ptides rows: bad.log:100001: more than 100000 rows; choose a part with --from and --to' "$rows" "${log[@]}" --latency 0
+    refuses "too many rows" 'ptides rows: bad.log:100001: more than 100000 rows; choose a part with --from and --to: --to 99999 takes the first rows that fit; all are 100001 rows, so 2 parts or more' \
+        "$rows" "${log[@]}" --latency 0
     "$rows" "${log[@]}" --latency 0 --to 99999 2>/dev/null | wc -l >found
     equal "a part of it" 100001 "$(<found)"
 }

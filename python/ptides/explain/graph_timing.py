@@ -164,9 +164,5 @@ def long(graph: Graph, subject: str) -> Finding:
     clocks = [each for each in graph.names if graph.kind(each) == "every" and subject in ("meaning", graph.place(each).text())]
     notes = [graph.spot(graph.actor(each).get("period"), f"`{each}` fires once in each period, up to `until`") for each in clocks[:4]]
     label = f"more than {horizon.MOST_FIRINGS:,} firings {'for each' if subject == 'meaning' else 'on this'} platform"
-    found, until = horizon.longest(json.loads(graph.source.text)), graph.root.number("until")
-    helps = ["lower `until`, raise periods, or give fewer rows"]
-    if found:
-        helps = [f"lower `until` from {until} ({horizon.duration(until)}) to {found.until} ({horizon.duration(found.until)}): "
-                 f"then `run` makes {found.firings:,} firings on `{found.platform}`", "or raise periods, give fewer rows, or leave actors out, probes too"]
+    helps = horizon.advice(json.loads(graph.source.text))
     return graph.found(place, label, f"at most {horizon.MOST_FIRINGS:,} firings a platform", *helps, notes=notes)

@@ -118,7 +118,8 @@ def sensor_fault(graph: Graph, line: str) -> Optional[Finding]:
     label, expected, better = {
         "header": ("this isn't the header" if rows else "there is no header", "the line `time,seen,value`",
                    header_help(record, source.text, SENSOR_COLUMNS)),
-        "too many rows": ("row 100,001", "at most 100,000 rows", f"the file has {len(rows) - 1:,}: leave some out"),
+        "too many rows": ("row 100,001", "at most 100,000 rows", f"the file has {len(rows) - 1:,}, which go in {-(-(len(rows) - 1) // 100_000)} parts: "
+                          "`--from` and `--to` of `rows` take one (docs/RECORDINGS.md, Long recordings)"),
         "fields": (f"row {row} has {count(len(record), 'field')}", "three fields: time,seen,value", commas)}.get(fault, ("", "", ""))
     if label:
         return Finding(Spot(source, start, end, label), expected, [better])

@@ -126,10 +126,22 @@ def better_rule(asked: Asked) -> str:
     return f"{found}, and " if found else ""
 
 
+def too_many_rows(asked: Asked, rows: list[Row], others: Iterable[Sample]) -> Fault:
+    """The fault that there are too many rows: up to where they fit, and in how many parts the recording goes."""
+    last = next((row.seen for row in reversed(rows) if row.seen < rows[-1].seen), 0)
+    try:
+        count = len(rows) + sum(is_taken(asked, sample) for sample in others)
+        parts = f"; all are {count} rows, so {-(-count // MOST_ROWS)} parts or more"
+    except Fault:
+        # What is wrong further on is said of the part in which it is.
+        parts = ""
+    return fault_at(asked, rows[-1].line, f"more than {MOST_ROWS} rows; choose a part with --from and --to: --to {last} takes the first rows that fit{parts}")
+
+
 def rows_of(asked: Asked, samples: Iterable[Sample]) -> list[Row]:
     """All rows, from --from to --to. If asked for it the last of several rows of one time is taken."""
     rows: list[Row] = []
-    values = Values(asked)
+    values, samples = Values(asked), iter(samples)
     for sample in samples:
         if not is_taken(asked, sample):
             continue
@@ -140,7 +152,7 @@ def rows_of(asked: Asked, samples: Iterable[Sample]) -> list[Row]:
         check_row(asked, row, rows[-1] if rows else None)
         rows.append(row)
         if len(rows) > MOST_ROWS:
-            raise fault_at(asked, sample.line, f"more than {MOST_ROWS} rows; choose a part with --from and --to")
+            raise too_many_rows(asked, rows, samples)
     if not rows:
         raise Fault(f"{asked.recording}: no value is in it, or none from --from to --to")
     return rows
