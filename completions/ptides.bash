@@ -31,7 +31,7 @@ _ptides_companion_options() { # NAME [KIND]
             esac
             ;;
         timing) echo '-h --help --version --markdown --only' ;;
-        wave) echo '-h --help --version --clock --workers --vcd --csv --svg --trace --from --to --zero --wall --no-inner' ;;
+        wave) echo '-h --help --version --clock --workers --vcd --csv --svg --trace --from --to --zero --zone --wall --no-inner' ;;
     esac
 }
 

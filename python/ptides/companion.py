@@ -61,6 +61,17 @@ class Parser(argparse.ArgumentParser):
         raise Fault(message)
 
 
+def checked(of: Callable[[str], Any]) -> Callable[[str], Any]:
+    """The reading of an option's word, whose faults are those of the option."""
+    def read(text: str) -> Any:
+        try:
+            return of(text)
+        except Fault as fault:
+            raise argparse.ArgumentTypeError(str(fault)) from fault
+
+    return read
+
+
 def parser(name: str, description: str, epilog: str, **options: Any) -> Parser:
     """The parser of the companion of that name, with `--version`."""
     found = Parser(prog=f"ptides {name}", description=description, epilog=epilog, **options)

@@ -70,10 +70,10 @@ def offset_seconds(text: str) -> int:
 
 def zone_of(text: str) -> tzinfo:
     """A zone by its name, as UTC or Europe/Berlin, or by its offset, as +01:00."""
-    if re.fullmatch(r"[Zz]|[+-]\d\d(?::?\d\d)?", text):
-        return offset_of(text)
     from zoneinfo import ZoneInfo
     try:
+        if re.fullmatch(r"[Zz]|[+-]\d\d(?::?\d\d)?", text):
+            return offset_of(text)
         return timezone.utc if text == "UTC" else ZoneInfo(text)
     except (LookupError, ValueError, OSError) as fault:
         raise Fault(f"`{text}` is no time zone, as UTC, Europe/Berlin or +01:00") from fault
@@ -160,6 +160,18 @@ def text_of(stamp: Fraction) -> str:
     # Before they had zones, clocks were ahead by some seconds too, which no stamp says.
     text = (local if local.utcoffset() % timedelta(minutes=1) == timedelta(0) else moment).isoformat()
     return text[:19] + (f".{digits}" if digits else "") + text[19:].replace("+00:00", "Z")
+
+
+def clock_of(stamp: Fraction) -> tuple[str, str]:
+    """The day, and what the clock on the wall shows."""
+    day, rest = text_of(stamp).split("T")
+    return day, re.split("[Z+-]", rest)[0]
+
+
+def zone_name(stamp: Fraction) -> str:
+    """What the zone of a stamp is called: UTC, Europe/Berlin or +01:00."""
+    offset = text_of(stamp)[19:].lstrip(".0123456789")
+    return getattr(getattr(stamp, "zone", None), "key", None) or offset.replace("Z", "UTC")
 
 
 def zero_file(sensor_file: Union[str, Path]) -> Path:

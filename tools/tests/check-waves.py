@@ -1,50 +1,21 @@
 #!/usr/bin/env python3
-"""Checks what `ptides wave` shows: clocks and replays, parts, long runs, labels, traces, wall time, and the recipe for pandas."""
+"""Checks what `ptides wave` shows: clocks and replays, parts, long runs, labels, traces, and the recipe for pandas."""
 from __future__ import annotations
 
-import csv
-import io
 import json
 import re
 import shutil
 import subprocess
 import sys
-import tempfile
 import xml.etree.ElementTree as trees
-from pathlib import Path
 from typing import Any
 
-from counted import EXAMPLES, GRAPHS, TOP, Case, Done, companion, copied, main, ptides, run
-
-SVG = "{http://www.w3.org/2000/svg}"
-
-
-def records(text: str) -> list[dict[str, str]]:
-    """The records of a table."""
-    return list(csv.DictReader(io.StringIO(text)))
+from counted import EXAMPLES, GRAPHS, TOP, copied, main, ptides, run
+from shown import SVG, WaveCase, records
 
 
-class Waves(Case):
+class Waves(WaveCase):
     """Waves of examples and of long runs, in a folder of their own."""
-
-    def setUp(self) -> None:
-        self.folder = Path(tempfile.mkdtemp())
-        self.addCleanup(shutil.rmtree, self.folder)
-
-    def wave(self, *words: str, folder: Path) -> Done:
-        """Runs `wave` in a folder."""
-        return companion("wave", *words, folder=folder)
-
-    def long_run(self, count: int, bound: int = 9, slack: int = 20, misses: bool = False) -> Path:
-        """A graph of a sensor with that many rows, each 1 ms after the one before, an actor between, and an actuator."""
-        actors = [{"name": "level", "platform": "tank", "kind": "sensor", "file": "level.csv", "bound": bound},
-                  {"name": "by", "platform": "tank", "kind": "shift", "by": 1},
-                  {"name": "valve", "platform": "tank", "kind": "actuator", "slack": 2 if misses else slack}]
-        graph = {"ptides": 1, "until": 10**12, "clock_error": 0, "platforms": ["tank"], "actors": actors,
-                 "wires": [["level", 0, "by", 0], ["by", 0, "valve", 0]], "links": []}
-        (self.folder / "graph.json").write_text(json.dumps(graph))
-        (self.folder / "level.csv").write_text("time,seen,value\n" + "".join(f"{number}000,{number}003,{number % 77}\n" for number in range(count)))
-        return self.folder
 
     # ---- what is run
 
@@ -172,25 +143,6 @@ class Waves(Case):
         self.assertNotEqual(*colours.values())
         for says in (">deadline<", ">fired past its deadline"):
             self.assertIn(says, text)
-
-    # ---- wall time
-
-    def test_wall_time(self) -> None:
-        """The zero beside a sensor file, or one that is stated, is in the picture, the table, the VCD and the trace."""
-        folder = copied(EXAMPLES / "governor", self.folder)
-        for words in ((), ("--zero", "2026-03-29T02:58:00+02:00")):
-            if not words:
-                (folder / "speed.zero").write_text("2026-03-29T00:58:00Z\n")
-            else:
-                (folder / "speed.zero").unlink()
-            done = self.wave("graph.json", "--csv", "t.csv", "--wall", "--svg", "t.svg", "--vcd", "t.vcd", "--trace", "t.json", *words, folder=folder)
-            self.assertEqual((done.status, done.notes), (0, ""))
-            valve = next(each for each in records((folder / "t.csv").read_text()) if each["actor"] == "valve")
-            self.assertEqual((valve["time"], valve["wall"]), ("3500", "2026-03-29T00:58:00.0035Z"))
-            self.assertIn(">00:58:00.002<", (folder / "t.svg").read_text())
-            self.assertIn(">2026-03-29, UTC<", (folder / "t.svg").read_text())
-            self.assertIn("$comment 0 is 2026-03-29T00:58:00Z $end", (folder / "t.vcd").read_text())
-            self.assertEqual(json.loads((folder / "t.json").read_text())["otherData"]["zero"], "2026-03-29T00:58:00Z")
 
     # ---- traces
 

@@ -1,7 +1,6 @@
 """A run as one table, for pandas."""
 from __future__ import annotations
 
-from fractions import Fraction
 from typing import Any, Iterator
 
 from ptides import wall_time
@@ -30,6 +29,6 @@ def csv_text(recording: Recording, wall: bool = False) -> str:
     for record in records_of(recording):
         cells = ["" if cell is None else str(cell) for cell in record]
         if wall:
-            cells.append("" if record[4] is None else wall_time.text_of(recording.zero + Fraction(record[4], 10**6)))
+            cells.append("" if record[4] is None else wall_time.text_of(recording.zero.after(record[4])))
         lines.append(",".join(cells))
     return "\n".join(lines) + "\n"

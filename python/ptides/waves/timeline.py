@@ -1,30 +1,19 @@
 """A run as a picture: a line for each actor, with its events, readings, deadlines and messages. Many events are drawn as bands."""
 from __future__ import annotations
 
-import math
 from dataclasses import dataclass
-from fractions import Fraction
 from typing import Any, Iterator, NamedTuple, Optional
 from xml.sax.saxutils import escape
 
 from ptides import wall_time
 from ptides.probes import outputs_of
+from ptides.waves.drawing import HEIGHT, SIGN, SMALL_SIGN, STYLE, TOP, WIDTH, Labels, Scale, deadline, line, miss
 from ptides.waves.recording import Recording
 
-WIDTH, RIGHT, HEIGHT, TOP = 1150, 40, 24, 34
 # Firings nearer to each other than this many points, at least so many of them, become a band.
 NEAR, CROWD = 4, 6
 # How many firings are drawn singly, on one line and on all, and how many points of bands: so a picture has less than 2 MB.
 MOST_ON_A_LINE, MOST_SINGLE, MOST_COLUMNS = 120, 3000, 60_000
-# The width of signs of both sizes of text, rounded up.
-SIGN, SMALL_SIGN = 6.4, 5.4
-STYLE = """
-text{font:11px Helvetica,Arial,sans-serif;fill:#0f172a} .small{font-size:9px;fill:#64748b} .platform{font-weight:bold}
-.frame{fill:#f8fafc;stroke:#cbd5e1} .grid{stroke:#e2e8f0} .seen{stroke:#2563eb;stroke-width:2} .deadline{fill:none;stroke:#d97706;stroke-width:1.5}
-.message{stroke:#7c3aed;stroke-dasharray:4 3} .many{opacity:.25} .wait{stroke:#94a3b8;stroke-width:3;opacity:.5} .event{fill:#fff;stroke:#0f172a}
-.acted{fill:#0f172a} .early .acted{fill:#16a34a} .early .wait{stroke:#16a34a} .miss{fill:none;stroke:#dc2626;stroke-width:2} .late .wait{stroke:#dc2626}
-.band{fill:none;stroke:#0f766e}
-"""
 
 
 class Firing(NamedTuple):
@@ -77,62 +66,6 @@ def units_of(recording: Recording) -> list[Unit]:
             label = actor["name"] if cells == 1 else f"{actor['name']}, cell {cell}"
             units.append(Unit(actor, label, firings_of(recording, actor, cell)))
     return units
-
-
-class Scale:
-    """Where a time is on the picture."""
-
-    def __init__(self, first: int, last: int, left: float):
-        self.first, self.last, self.left = first, max(last, first + 1), left
-
-    def shows(self, *times: Optional[int]) -> bool:
-        """Whether all these times are known and in the picture."""
-        return all(time is not None and self.first <= time <= self.last for time in times)
-
-    def place(self, time: int) -> float:
-        """The points from the left."""
-        time = min(max(time, self.first), self.last)
-        return self.left + (time - self.first) / (self.last - self.first) * (WIDTH - self.left - RIGHT)
-
-    def x(self, time: int) -> str:
-        """The same as text."""
-        return f"{self.place(time):.1f}"
-
-    def ticks(self) -> Iterator[int]:
-        """Some eight round times."""
-        rough = max((self.last - self.first) / 8, 1)
-        power = 10 ** int(math.log10(rough))
-        step = next(power * factor for factor in (1, 2, 5, 10) if power * factor >= rough)
-        yield from range(-(-self.first // step) * step, self.last + 1, step)
-
-
-def line(kind: str, x1: str, y1: float, x2: str, y2: float) -> str:
-    """A line from one place to another."""
-    return f'<line class="{kind}" x1="{x1}" y1="{y1:.1f}" x2="{x2}" y2="{y2:.1f}"/>'
-
-
-def deadline(x: float, y: float) -> str:
-    """A deadline: a bracket that closes."""
-    return f'<path class="deadline" d="M{x - 4:.1f} {y - 8:.1f}h4v16h-4"/>'
-
-
-def miss(x: float, y: float) -> str:
-    """A miss: a cross."""
-    return f'<path class="miss" d="M{x - 4:.1f} {y - 4:.1f}l8 8m0 -8l-8 8"/>'
-
-
-class Labels:
-    """Leaves out a label that would cover the one before it on its line."""
-
-    def __init__(self) -> None:
-        self.end = -math.inf
-
-    def place(self, x: float, y: float, text: str) -> str:
-        """The label, or nothing."""
-        if x < self.end:
-            return ""
-        self.end = x + 6 + SMALL_SIGN * len(text)
-        return f'<text x="{x:.1f}" y="{y:.1f}" class="small" dx="4">{text}</text>'
 
 
 def single(unit: Unit, firing: Firing, scale: Scale, labels: Labels) -> Iterator[str]:
@@ -233,7 +166,7 @@ class Picture:
         """The wall time of a time, if it is known."""
         if self.recording.zero is None:
             return ""
-        text = wall_time.text_of(self.recording.zero + Fraction(tick, 10**6)).split("T")[1].rstrip("Z")
+        text = wall_time.clock_of(self.recording.zero.after(tick))[1]
         return f'<text class="small" x="{self.scale.x(tick)}" y="{self.top - 12}" text-anchor="middle">{text}</text>'
 
     def caption(self) -> Iterator[str]:
@@ -241,8 +174,8 @@ class Picture:
         zero = self.recording.zero
         yield f'<text class="small" x="10" y="{self.top - 12 - 10 * (zero is not None)}">microseconds</text>'
         if zero is not None:
-            day = wall_time.text_of(zero + Fraction(self.scale.first, 10**6)).split("T")[0]
-            yield f'<text class="small" x="10" y="{self.top - 12}">{day}, UTC</text>'
+            first = zero.after(self.scale.first)
+            yield f'<text class="small" x="10" y="{self.top - 12}">{wall_time.clock_of(first)[0]}, {wall_time.zone_name(first)}</text>'
 
     def messages(self) -> Iterator[str]:
         """A dashed line for each message, from the reading at which it was sent to the one at which it was taken; near ones are one."""
@@ -256,7 +189,7 @@ class Picture:
             near = entry.actor, int(self.scale.place(entry.reading) // NEAR), int(self.scale.place(arrived) // NEAR)
             if near not in drawn or entry.actor not in self.crowded:
                 drawn.add(near)
-                yield line("message many" if entry.actor in self.crowded else "message", self.scale.x(entry.reading), self.heights[entry.actor], self.scale.x(arrived), self.heights[peers[entry.actor]])
+                yield line("messages" if entry.actor in self.crowded else "message", self.scale.x(entry.reading), self.heights[entry.actor], self.scale.x(arrived), self.heights[peers[entry.actor]])
 
     def unit(self, unit: Unit, most: int, width: int) -> Iterator[str]:
         """The line of a unit."""
@@ -286,7 +219,8 @@ class Picture:
                  ('class="deadline"', '<path class="deadline key" d="M{x} {y}m-4 -5h4v10h-4"/>', "deadline"),
                  ('class="miss"', '<path class="miss key" d="M{x} {y}m-3 -3l6 6m0 -6l-6 6"/>', "fired past its deadline; below a band a mark"),
                  ('class="seen"', '<path class="seen key" d="M{x} {y}m0 -5v10"/>', "row seen"),
-                 ('class="message', '<path class="message key" d="M{x} {y}m-5 0h12"/>', "message"),
+                 ('class="message"', '<path class="message key" d="M{x} {y}m-5 0h12"/>', "message"),
+                 ('class="messages"', '<path class="messages key" d="M{x} {y}m-4 -4v8m4 -8v8m4 -8v8"/>', "many messages"),
                  ('class="band"', '<path class="band key" stroke-width="6" d="M{x} {y}m0 -4v8"/>',
                   f"many events: the range of their values in each {width} points, on the scale of their line; their deadlines and rows seen are left out")]
         x, y = 16.0, self.bottom + 8

@@ -113,9 +113,11 @@ TITLES = {"events": "time of events", "seen": "rows as seen", "fired": "as acted
 def gtkw_text(recording: Recording, vcd: str, first: Optional[int] = None, last: Optional[int] = None) -> str:
     """A view for GTKWave: events of each platform, rows as they were seen, actuators as they acted, and what was missed."""
     signals = signals_of(recording, first, last)
-    start = first or 0
+    changes = [stamp for signal in signals for stamp, _ in signal.changes]
+    # The view begins with the first change: before it nothing is known.
+    start = min(changes, default=0) if first is None else first
     # The zoom is how often the time that 200 points show was halved; some 720 points show the waves.
-    end = max((stamp for signal in signals for stamp, _ in signal.changes), default=start) if last is None else last
+    end = max(changes, default=start) if last is None else last
     zoom = -math.log2(((end - start) * 1.05 + 1) / 3.6)
     lines = ["[*] a view of GTKWave, written by ptides wave", f'[dumpfile] "{vcd}"', f"[timestart] {start}", "[size] 1280 800", "[pos] -1 -1"]
     lines += [f"*{zoom:.6f} {start}" + " -1" * 27, "[treeopen] events.", "[sst_width] 150", "[signals_width] 260", "[sst_expanded] 1"]
