@@ -51,6 +51,18 @@ class RowTimes(Tables):
         self.assertIn("with --phase 640 a bound of 150 is enough, instead of 990\n", done.notes)
         self.assertIn("this recording needs a bound of 150\n", self.table(text, "--unit", "us", "--period", "1000", "--phase", "640", "--latency", "60").notes)
 
+    def test_a_phase_for_several_signals(self) -> None:
+        """Of several signals the phase that is proposed fits all; rows before the first time that it gives are left out by --from."""
+        (self.folder / "car.dbc").write_text('BO_ 1 A: 1 x\n SG_ a : 0|8@1+ (1,0) [0|0] "" x\nBO_ 2 B: 1 x\n SG_ b : 0|8@1+ (1,0) [0|0] "" x\n')
+        words = ("can", "d.log", "--dbc", "car.dbc", "--signals", "a,b", "--zero", "1", "-o", "data", "--period", "1000")
+        for first, phase in ((300, "--phase 0"), (900, "--phase 950 --from 950")):
+            stamps = [(1_000_000 + 1000 * number + first + wait + 50 * signal, signal) for number, wait in enumerate((0, 90, 30)) for signal in (1, 2)]
+            stamps += [(1_000_000 + 2, 1)] if first == 900 else []
+            (self.folder / "d.log").write_text("".join(f"({stamp // 10**6}.{stamp % 10**6:06}) can0 00{signal}#07\n" for stamp, signal in sorted(stamps)))
+            with self.subTest(first=first):
+                self.refuses(self.rows(*words), f"--period and --phase go together: {phase} gives each row of each signal a time of its own")
+                self.assertEqual(self.rows(*words, *phase.split()).status, 0)
+
     def test_proposed_phases_fit(self) -> None:
         """Of random stamps with jitter all phases that are proposed give each row a time of its own, and no other does."""
         random.seed(3)

@@ -101,28 +101,40 @@ def least_bound(asked: Asked, stamps: list[int], bound: int) -> str:
     return f"with --phase {phase} a bound of {least} is enough, instead of {bound}" if 2 * least <= bound else ""
 
 
-def proposal(asked: Asked, period: int) -> str:
-    """Which phases give each row a time of its own; nothing if there is none, or if the recording can be read only once."""
-    asked.passed.clear()
-    try:
-        stamps = [sample.seen for sample in islice(asked.samples(asked), MOST_ROWS) if is_taken(asked, sample)]
-    except Fault:
+def proposal(asked: Asked, period: int, signals: list[list[int]]) -> str:
+    """Which phases give each row of each of these signals, by their stamps, a time of its own; nothing if there is none."""
+    latency = asked.latency or 0
+    found = [phases(stamps, period, latency) for stamps in signals if stamps]
+    if not found or None in found:
         return ""
-    found = phases(stamps, period, asked.latency or 0) if stamps else None
-    if found is None:
+    # A phase and one that is a period less are the same; the smaller ones are shown. A phase of 0 is the usual one.
+    choices = [0, *(fit[-1] % period for fit in found)]
+    phase = next((each for each in choices if all((each - fit[0]) % period < len(fit) for fit in found)), None)
+    if phase is None:
         return ""
-    # A phase and one that is a period less are the same; the smaller ones are shown.
-    more = period if found[-1] >= period else 0
-    low, high = found[0] - more, found[-1] - more
-    phase = 0 if low <= 0 <= high else high
+    # Rows before the first time are left out.
+    start = f" --from {phase + latency}" if min(map(min, filter(None, signals))) < phase + latency else ""
+    if len(found) > 1:
+        return f"--phase {phase}{start} gives each row of each signal a time of its own"
+    more = period if found[0][-1] >= period else 0
+    low, high = found[0][0] - more, found[0][-1] - more
     others = f" (as do those from {low} to {high})" if low < high else ""
-    better = least_bound(asked, stamps, bound_with(stamps, period, phase, asked.latency or 0))
-    return f"--phase {phase} gives each row a time of its own{others}" + (f"; {better}" if better else "")
+    better = least_bound(asked, signals[0], bound_with(signals[0], period, phase, latency))
+    return f"--phase {phase}{start} gives each row a time of its own{others}" + (f"; {better}" if better else "")
+
+
+def stamps_of(asked: Asked, samples: Iterable[Sample]) -> list[int]:
+    """The stamps of the first samples from --from to --to."""
+    return [sample.seen for sample in islice(samples, MOST_ROWS) if is_taken(asked, sample)]
 
 
 def better_rule(asked: Asked) -> str:
-    """What to change in the rule, if two rows have one time."""
-    found = proposal(asked, asked.period) if asked.period else ""
+    """What to change in the rule, if two rows have one time; nothing if the recording can be read only once."""
+    asked.passed.clear()
+    try:
+        found = proposal(asked, asked.period, [stamps_of(asked, asked.samples(asked))]) if asked.period else ""
+    except Fault:
+        return ""
     return f"{found}, and " if found else ""
 
 
