@@ -68,8 +68,15 @@ class WaveTimes(WaveCase):
         done = self.wave("graph.json", "--vcd", "t.vcd", folder=folder)
         lines = (folder / "t.vcd").read_text().count("\n")
         self.assertGreater(lines, 200_000)
-        self.assertRegex(done.notes, rf"^ptides wave: the VCD has {lines:,} lines, [0-9.]+ MB; --from and --to take a part, --no-inner leaves inner signals out\n$")
+        self.assertRegex(done.notes, rf"^ptides wave: the VCD has {lines:,} lines, [0-9.]+ MB; --from and --to take a part\n$")
         self.assertEqual((done.status, self.wave("graph.json", "--vcd", "t.vcd", "--to", "1000000", folder=folder).notes), (0, ""))
+
+    def test_values_without_inner_signals(self) -> None:
+        """Where inner signals are left out, the timeline has the values of sensors and receivers still: they are in the log."""
+        text = self.wave("graph.json", "--svg", "-", "--no-inner", folder=EXAMPLES / "governor").output
+        for title in ("speed at 1000.0, fired at the reading 1201, value 98", "down at 2500.0, fired at the reading 2951, value 4"):
+            self.assertIn(f"<title>{title}</title>", text)
+        self.assertIn("values 0 to 76</title>", self.wave("graph.json", "--svg", "-", "--no-inner", folder=self.long_run(200)).output)
 
     def test_many_messages(self) -> None:
         """Many messages are a band that can be seen, with a sign of its own in the legend."""

@@ -41,13 +41,19 @@ class Unit:
         return self.actor["kind"] in ("sensor", "receive", "send", "actuator")
 
 
+def values_of(recording: Recording, actor: dict[str, Any], output: int) -> dict[tuple[int, int], int]:
+    """The values of an output by their tags. Those of sensors and receivers are in the log too, if they aren't watched."""
+    found = recording.values.get((actor["name"], output), [])
+    logged = [entry for what in ("row", "take") for entry in recording.logged.get((what, actor["name"]), [])]
+    return {(each.time, each.step): each.value for each in found or logged}
+
+
 def firings_of(recording: Recording, actor: dict[str, Any], output: int) -> list[Firing]:
     """The firings of an actor, or of a cell of lanes, whose events have the same tags."""
     name = actor["name"]
-    found = recording.values.get((name, output), [])
-    values = {(value.time, value.step): value.value for value in found} if outputs_of(actor) <= 1 or actor["kind"] == "lanes" else {}
+    values = values_of(recording, actor, output) if outputs_of(actor) <= 1 or actor["kind"] == "lanes" else {}
     if actor["kind"] == "lanes":
-        fired = [(value.time, value.step, value.reading) for value in found]
+        fired = [(value.time, value.step, value.reading) for value in recording.values.get((name, output), [])]
     else:
         fired = [(entry.time, entry.step, entry.reading) for entry in recording.logged.get(("claim", name), [])]
     slack = actor.get("slack")
