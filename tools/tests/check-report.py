@@ -21,6 +21,7 @@ pythons.prefer("selenium")
 sys.path.insert(0, str(pythons.PACKAGE))
 
 import browser  # noqa: E402
+import papers  # noqa: E402
 from counted import EXAMPLES, GRAPHS, TOP, Case, Done, companion, copied, main, ptides  # noqa: E402
 
 from ptides.reporting import series  # noqa: E402
@@ -356,19 +357,33 @@ class Use(Case):
             colours[scheme] = self.browser.run("const style = getComputedStyle(document.body); return [style.backgroundColor, style.color]")
         self.assertEqual(colours, {"dark": ["rgb(11, 17, 32)", "rgb(226, 232, 240)"], "light": ["rgb(255, 255, 255)", "rgb(15, 23, 42)"]})
 
+    def printed(self) -> Path:
+        """The page on paper."""
+        file = self.place / "page.pdf"
+        file.write_bytes(base64.b64decode(self.browser.devtools("Page.printToPDF", printBackground=True, preferCSSPageSize=True)["data"]))
+        return file
+
     def test_print(self) -> None:
-        """On paper every trend is drawn, in the colours for light, without buttons."""
+        """On paper every trend that is chosen is drawn, in the colours for light, without buttons; then all is as before."""
+        self.need("pdftotext")
+        self.need("pdftoppm")
         self.browser.devtools("Emulation.setEmulatedMedia", features=[{"name": "prefers-color-scheme", "value": "dark"}])
+        for name in ("missed", "stand"):
+            with self.subTest(page=name):
+                self.open(name)
+                trends = papers.trends(self.printed())
+                self.assertGreater(len(trends), 10)
+                self.assertEqual([title for title, dark in trends if (dark < 10) != ("no events" in title)], [])
+                self.assertEqual(self.browser.run("return document.querySelectorAll('.paper, .opened, .printing').length"), 0)
         self.open("canlog")
-        data = base64.b64decode(self.browser.devtools("Page.printToPDF", printBackground=True)["data"])
+        self.browser.run("document.querySelector('.toolbar input[value=inner]').click()")
+        before = self.drawn()
+        text = papers.text(self.printed())
+        self.assertIn("lamp actuator, on panel", text)
+        self.assertNotIn("scale, on", text)
+        self.assertNotIn("part of a name", text)
+        self.assertEqual(self.drawn(), before)
         self.browser.devtools("Emulation.setEmulatedMedia", features=[])
-        self.assertTrue(data.startswith(b"%PDF") and len(data) > 50_000)
-        self.assertEqual(self.browser.run("return [...document.querySelectorAll('.trend')].filter(each => !each.trend.graph).length"), 0)
-        if shutil.which("pdftotext"):
-            (self.place / "page.pdf").write_bytes(data)
-            text = subprocess.run(["pdftotext", self.place / "page.pdf", "-"], capture_output=True, text=True, check=True).stdout
-            self.assertIn("lamp actuator, on panel", text)
-            self.assertNotIn("part of a name", text)
 
 
 if __name__ == "__main__":

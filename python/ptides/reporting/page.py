@@ -285,5 +285,5 @@ def document(title: str, body: str) -> str:
     licences = tag("details", f"<summary>The trends are drawn by dygraphs, whose licence this is</summary>{tag('pre', escape(licence))}")
     head = (f'<meta charset="utf-8"><meta name="viewport" content="width=device-width,initial-scale=1">'
             f'<meta http-equiv="Content-Security-Policy" content="{POLICY}"><title>{escape(title)}</title><style>{style}{own("report.css")}</style>')
-    scripts = "".join(f"<script>{text}</script>\n" for text in (script, own("signals.js"), own("report.js")))
+    scripts = "".join(f"<script>{text}</script>\n" for text in (script, *map(own, ("signals.js", "trends.js", "report.js"))))
     return f'<!doctype html>\n<html lang="en"><head>{head}</head>\n<body>{body}\n<footer>{licences}</footer>\n{scripts}</body></html>\n'
