@@ -126,7 +126,7 @@ JSON
     same "and its waves" steps.vcd stdin.vcd
 }
 
-# A graph with no room for probes, and one whose run with them would be too long.
+# A graph with no room for probes, and one whose run with all of them would be too long.
 check_limits() {
     python3 - <<'PYTHON'
 import json
@@ -140,14 +140,17 @@ json.dump(graph(1024, 100), open("full.json", "w"))
 json.dump(dict(graph(3, 10**6)), open("long.json", "w"))
 PYTHON
     "$wave" full.json --csv full.csv 2>notes
-    equal "1024 actors" "0 ptides wave: no inner signals: with an actuator on each output the graph is too large" "$? $(<notes)"
+    equal "1024 actors" "0 " "$? $(<notes)"
+    equal "1024 actors: two events of each" "1024 2" "$(grep '^event' full.csv | cut -d , -f 3 | uniq -c | awk '{ print $1 }' | uniq -c | awk '{ print $1, $2 }')"
+    "$wave" full.json --clock step:0:1 --csv full.csv 2>notes
+    equal "1024 actors by another clock" "5 ptides wave: no inner signals: with an actuator on each output the graph is too large" "$? $(tail -n 1 notes)"
     equal "1024 actors: events of the actuator alone" "event,p,out 2" "$(grep '^event' full.csv | cut -d , -f 1-3 | uniq -c | awk '{ print $2, $1 }')"
     python3 -c 'print("time,seen,value"); [print(f"{n},{n},1") for n in range(50000)]' >s.csv
     "$wave" long.json --csv long.csv 2>notes
-    equal "150000 firings" '0 ptides wave: no inner signals: with an actuator on each output the run ends with `long p`' "$? $(<notes)"
+    equal "150000 firings" "0 " "$? $(<notes)"
+    equal "150000 firings: all events" "150000" "$(grep -c '^event' long.csv)"
     "$wave" long.json --no-inner --csv - >found 2>notes
-    equal "150000 firings, --no-inner" "0 " "$? $(<notes)"
-    same "150000 firings: the same table" found long.csv
+    equal "150000 firings, --no-inner" "0 50000 " "$? $(grep -c '^event' found) $(<notes)"
 }
 
 # What ptides refuses: its line, its status, and no file. What wave adds, of a run that is too long, begins with its name.

@@ -2,24 +2,17 @@
 from __future__ import annotations
 
 import json
+from collections import Counter
 from dataclasses import dataclass, field
 from fractions import Fraction
 from functools import cached_property
-from typing import Any, Iterator, NamedTuple, Optional
+from typing import Any, Iterator, Optional
 
-from ptides import probes, program, tables
-from ptides.logs import Entry, entries_of
+from ptides import probes, program
+from ptides.inner import Value, inner_signals, watched_values
+from ptides.logs import Entry
 from ptides.misses import Miss, misses_of
 from ptides.probes import Output
-
-
-class Value(NamedTuple):
-    """A value at a tag, and the clock reading at which its platform made it, or acted on it."""
-
-    time: int
-    step: int
-    value: int
-    reading: int
 
 
 @dataclass
@@ -32,8 +25,8 @@ class Command:
     own_clock: bool = False
 
     def run(self, text: str) -> program.Done:
-        """Runs this command on the text of a graph, in the current folder."""
-        return program.run([*self.words, "/dev/stdin", *self.rest, "--log"], given=text)
+        """Runs this command on the text of a graph, in the current folder; a run that doesn't end raises `Refused`."""
+        return program.ask([*self.words, "/dev/stdin", *self.rest, "--log"], accepted=(0, 5), given=text)
 
 
 @dataclass
@@ -85,20 +78,11 @@ class Recording:
         return Recording(self.graph, values, entries, [miss for miss in self.misses if is_in(miss.time, miss.reading)], self.zero)
 
 
-def add_values(recording: Recording, output: str, outputs: dict[str, Output]) -> list[Entry]:
-    """Takes the tables of these actuators as the values of the outputs that they stand for; gives the log."""
-    table, log = tables.parts_of(output)
-    events, entries = tables.events_of(table), list(entries_of(log))
-    readings = {(entry.actor, entry.time, entry.step): entry.reading for entry in entries if entry.what == "claim" and entry.actor in outputs}
-    for name, place in outputs.items():
-        recording.values[place] = [Value(*event, readings[(name, *event[:2])]) for event in events.get(name, [])]
-    return entries
-
-
 def take(recording: Recording, done: program.Done, outputs: dict[str, Output]) -> None:
     """Takes what a run gave as the recording; the entries of probes are left out."""
     actuators = {actor["name"]: (actor["name"], 0) for actor in recording.actors() if actor["kind"] == "actuator"}
-    entries = add_values(recording, done.output, {**actuators, **outputs})
+    values, entries = watched_values(done.output, {**actuators, **outputs})
+    recording.values.update(values)
     recording.entries = [entry for entry in entries if entry.actor not in outputs]
     recording.misses = misses_of(done.notes)
     for entry in recording.entries:
@@ -109,24 +93,35 @@ def take(recording: Recording, done: program.Done, outputs: dict[str, Output]) -
 def record(command: Command, inner: bool) -> tuple[Recording, str, int]:
     """Runs the graph; also gives notes, those of the run first, and the status.
 
-    By the paced clock inner signals come from a second run, of the same graph with probes. Two runs by clocks of their own may have other
+    By the paced clock inner signals come from further runs, of the same graph with probes. Two runs by clocks of their own may have other
     readings, so then all comes from one run, of the graph with probes.
     """
-    recording, note = Recording(json_of(command)), ""
-    watched, outputs, note = watched_graph(recording.graph) if inner else ("", {}, "")
-    if watched and command.own_clock:
-        done = command.run(watched)
-        if done.status in (0, 5):
-            take(recording, done, outputs)
+    recording, notes = Recording(json_of(command)), []
+    if inner and command.own_clock:
+        done, notes = run_with_probes(command, recording)
+        if done:
             return recording, done.notes, done.status
-        watched, note = "", no_inner(done)
     done = command.run(command.text)
-    if done.status not in (0, 5):
-        raise program.Refused(done)
     take(recording, done, {})
-    if watched:
-        note = add_inner(command, recording, watched, outputs)
-    return recording, done.notes + note, done.status
+    if inner and not command.own_clock:
+        notes = add_inner(command, recording)
+    return recording, done.notes + "".join(f"{note}\n" for note in notes), done.status
+
+
+def run_with_probes(command: Command, recording: Recording) -> tuple[Optional[program.Done], list[str]]:
+    """Takes a run of the graph with a probe on each output; or gives nothing and a note, if there is no such run."""
+    try:
+        watched, outputs = probes.with_probes(recording.graph, probes.all_outputs(recording.graph))
+    except (LookupError, TypeError, AttributeError):
+        return None, []
+    if not probes.fits(watched):
+        return None, ["no inner signals: with an actuator on each output the graph is too large"]
+    try:
+        done = command.run(text_of(watched))
+    except program.Refused as refused:
+        return None, [f"no inner signals: with an actuator on each output the run ends with `{refused.line or f'status {refused.status}'}`"]
+    take(recording, done, outputs)
+    return done, []
 
 
 def json_of(command: Command) -> dict[str, Any]:
@@ -138,26 +133,16 @@ def json_of(command: Command) -> dict[str, Any]:
         return {"platforms": [], "actors": [], "wires": []}
 
 
-def watched_graph(graph: dict[str, Any]) -> tuple[str, dict[str, Output], str]:
-    """The text of the graph with a probe on each output, and what each probe is on; or nothing and a note, if it is too large."""
-    try:
-        watched, outputs = probes.with_probes(graph, probes.all_outputs(graph))
-    except (LookupError, TypeError, AttributeError):
-        return "", {}, ""
-    if not probes.fits(watched):
-        return "", {}, "no inner signals: with an actuator on each output the graph is too large\n"
-    return json.dumps(watched, separators=(",", ":")), outputs, ""
+def text_of(graph: dict[str, Any]) -> str:
+    """The graph as text."""
+    return json.dumps(graph, separators=(",", ":"))
 
 
-def no_inner(done: program.Done) -> str:
-    """The note that inner signals are left out, since the run of the graph with probes ends otherwise."""
-    return f"no inner signals: with an actuator on each output the run ends with `{done.line or f'status {done.status}'}`\n"
-
-
-def add_inner(command: Command, recording: Recording, watched: str, outputs: dict[str, Output]) -> str:
-    """Adds the inner signals by a second run; gives the note that they are left out if that can't be done."""
-    done = command.run(watched)
-    if done.status not in (0, 5):
-        return no_inner(done)
-    add_values(recording, done.output, outputs)
-    return ""
+def add_inner(command: Command, recording: Recording) -> list[str]:
+    """Adds the inner signals; gives notes of those that are left out."""
+    claims = Counter(entry.actor for entry in recording.entries if entry.what == "claim")
+    # The file of a network has all links.
+    needed = [link["to"] for link in recording.graph["links"] if command.words[0] == "replay"]
+    found = inner_signals(recording.graph, claims, lambda graph: command.run(text_of(graph)).output, needed=needed)
+    recording.values.update(found.values)
+    return found.notes
