@@ -4,13 +4,13 @@ A part has a zero of its own, so the ticks of `every` and the rows of sensors co
 """
 from __future__ import annotations
 
-import csv
 import json
 from bisect import bisect_left, bisect_right
 from collections import Counter
 from typing import Any, NamedTuple, Optional
 
 from ptides import program
+from ptides.files import records_of
 
 # How many firings a run may have on one platform.
 MOST_FIRINGS = 200_000
@@ -51,7 +51,7 @@ class Sources:
     def __init__(self, graph: dict[str, Any]):
         self.until = graph["until"]
         self.clocks = [(actor["start"], actor["period"]) for actor in graph["actors"] if actor["kind"] == "every"]
-        self.rows = sorted(time for actor in graph["actors"] if actor["kind"] == "sensor" for time in times_of(actor["file"]))
+        self.rows = sorted(int(time) for actor in graph["actors"] if actor["kind"] == "sensor" for time, _, _ in records_of(actor["file"]))
 
     def ticks(self, time: int) -> int:
         """How many ticks come up to a time."""
@@ -80,11 +80,6 @@ class Sources:
             low, high = (middle, high) if self.count(middle) <= number else (low, middle - 1)
         return low
 
-
-def times_of(path: str) -> list[int]:
-    """The times of the rows of a sensor file that the program has taken."""
-    with open(path, encoding="utf-8-sig", newline="") as file:
-        return [int(record[0]) for record in list(filter(None, csv.reader(file)))[1:]]
 
 
 def firings(graph: dict[str, Any], until: int) -> Optional[Counter[str]]:
