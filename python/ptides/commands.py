@@ -9,12 +9,10 @@ import csv
 import io
 import os
 import re
-from contextlib import nullcontext
 from pathlib import Path
 from typing import Any, Collection, Iterable, Mapping, NamedTuple, Optional, Union
 
 from ptides import companions, files, program
-from ptides.companion import write
 from ptides.graphs import Changes, Graph, Placed, placed
 from ptides.program import Done, Fault, Refused
 from ptides.results import Result, Verdict
@@ -105,18 +103,9 @@ def log_text(log: Union[PathLike, Result]) -> Union[str, PathLike]:
 def report(graph: Graph, file: PathLike, *, air: Any = None, clock: Clock = "paced", until: Any = None, zero: Any = None, title: str = "",
            folder: Optional[PathLike] = None, sensors: Sensors = NOTHING, **more: Any) -> int:
     """Runs a graph, or replays it over the recorded network `air`, and writes the page of the run. Gives the status of the run."""
-    from ptides.reporting.gather import Asked, gather
-    from ptides.reporting.page import page
-    from ptides.reporting.stamps import zero_of_timestamp
-    from ptides.times import stamp_of
+    from ptides.reporting.from_python import write_report
 
-    network = nullcontext(None) if air is None else files.air_file(air)
-    with placed(graph, folder, Changes({**sensors, **more}, zero, until)) as ready, network as path:
-        name = str(ready.origin or "graph.json")
-        found = gather(Asked(ready.folder / ready.word, None if path is None else Path(path), clock, ready.folder, name))
-        text = page(found, title or name, zero_of_timestamp(stamp_of(ready.zero)))
-    write(file, text)
-    return found.status
+    return write_report(graph, file, air, clock, Changes({**sensors, **more}, zero, until), title, folder)
 
 
 class Growth(NamedTuple):

@@ -42,7 +42,8 @@ class Changes:
 class Placed:
     """A graph that is ready: the folder to run in, the word that names the graph, its text, the zero of its times, its probes.
 
-    `origin` is the file that the user knows, if the graph has one.
+    `origin` is the file that the user knows, if the graph has one. `rows_names` says what the user calls the rows of each sensor, if the
+    graph was changed.
     """
 
     folder: Path
@@ -51,6 +52,7 @@ class Placed:
     zero: Any = None
     probes: dict[str, Output] = field(default_factory=dict)
     origin: Optional[Path] = None
+    rows_names: Mapping[str, str] = field(default_factory=dict)
 
     @property
     def graph(self) -> dict[str, Any]:
@@ -114,9 +116,10 @@ def changed(work: Path, home: Path, text: bytes, changes: Changes, origin: Optio
     """Writes the changed graph and the files of its sensors into a folder."""
     zero = zero_of(text, home, changes)
     probed: dict[str, Output] = {}
+    names: dict[str, str] = {}
     try:
         graph = copy.deepcopy(json.loads(text))
-        place_sensors(graph, work, home, changes.sensors, zero)
+        names = place_sensors(graph, work, home, changes.sensors, zero)
     except NO_GRAPH:
         pass
     else:
@@ -126,11 +129,14 @@ def changed(work: Path, home: Path, text: bytes, changes: Changes, origin: Optio
             graph, probed = probes.with_probes(graph, watched(graph, changes.probes))
         text = text_of(graph).encode()
     (work / USUAL).write_bytes(text)
-    return Placed(work, USUAL, text, zero, probed, origin)
+    return Placed(work, USUAL, text, zero, probed, origin, names)
 
 
-def place_sensors(graph: dict[str, Any], work: Path, home: Path, given: Mapping[str, Any], zero: Any) -> None:
-    """Gives each sensor a file in the folder: the data that is given for it, or a link to the file that the graph names."""
+def place_sensors(graph: dict[str, Any], work: Path, home: Path, given: Mapping[str, Any], zero: Any) -> dict[str, str]:
+    """Gives each sensor a file in the folder: the data that is given for it, or a link to the file that the graph names.
+
+    What the user calls the rows of each is the file, or the type of the data.
+    """
     actors = [actor for actor in graph["actors"] if actor["kind"] == "sensor"]
     names = [actor["name"] for actor in actors]
     if len(set(names)) < len(names) or not all(map(NAME.fullmatch, names)):
@@ -138,10 +144,13 @@ def place_sensors(graph: dict[str, Any], work: Path, home: Path, given: Mapping[
     for name in given:
         if name not in names:
             raise Fault(f"the graph has no sensor {name}, but {', '.join(names) or 'none'}")
+    called = {}
     for actor in actors:
         data = given.get(actor["name"])
         actor["file"], file = f"{actor['name']}.csv", actor["file"]
+        called[actor["name"]] = file if data is None else sensors.name_of(data)
         sensors.write(actor["name"], home / file if data is None else data, work / actor["file"], zero)
+    return called
 
 
 def watched(graph: dict[str, Any], chosen: Union[bool, Iterable[str]]) -> list[Output]:

@@ -21,6 +21,11 @@ def is_file(data: Any) -> bool:
     return isinstance(data, (str, os.PathLike, Recorded))
 
 
+def name_of(data: Any) -> str:
+    """What the user calls data: its path, or its type."""
+    return os.fspath(data) if isinstance(data, (str, os.PathLike)) else type(data).__name__
+
+
 def parts_of(name: str, data: Any) -> dict[str, Any]:
     """The times, the values and, if there are any, the readings at which they were seen."""
     import pandas

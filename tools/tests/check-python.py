@@ -2,6 +2,7 @@
 """Checks the package `ptides`: without pandas, with it, and in each version of Python that is here."""
 from __future__ import annotations
 
+import html
 import json
 import os
 import shutil
@@ -183,9 +184,20 @@ class Plain(Case):
         self.assertEqual(ptides.report(GOVERNOR, file, speed=rows, title="a <title>"), 0)
         page = file.read_text()
         self.assertIn("<title>a &lt;title&gt;</title>", page)
-        self.assertIn("speed.csv (speed)", page)
+        self.assertIn(f"<td>{rows} (speed)</td>", page)
+        self.assertIn(f">>> ptides.report({str(GOVERNOR)!r}, {str(file)!r}, speed={str(rows)!r})", html.unescape(page))
         self.assertNotIn("/tmp/ptides-", page)
-        self.assertEqual(ptides.report(EXAMPLES / "network", file, air=EXAMPLES / "network" / "air.csv"), 0)
+        network = EXAMPLES / "network"
+        self.assertEqual(ptides.report(network, file, air=network / "air.csv"), 0)
+        self.assertIn(f"<title>{network / 'graph.json'}</title>", file.read_text())
+        self.assertIn(f"<td>{network / 'air.csv'}</td>", file.read_text())
+        with self.assertRaisesRegex(ptides.Fault, "a replay takes no clock"):
+            ptides.report(network, file, air=network / "air.csv", clock="machine")
+        with self.assertRaisesRegex(ptides.Fault, "which is a file of the run"):
+            ptides.report(GOVERNOR, rows, speed=rows)
+        graph = json.loads((GOVERNOR / "graph.json").read_text())
+        ptides.report(graph, file, folder=GOVERNOR, speed=rows, until=5000)
+        self.assertIn(f"ptides.report(<dict>, {str(file)!r}, until=5000, folder={str(GOVERNOR)!r}, speed={str(rows)!r})", html.unescape(file.read_text()))
 
     def test_a_pipe(self) -> None:
         """A graph may come from a pipe; its sensor files are where `folder` says."""

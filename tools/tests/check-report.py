@@ -101,6 +101,22 @@ class Report(Case):
         self.assertEqual(len(pages), 1)
         self.has(pages.pop(), "at 1980-01-01 00:00:00 UTC")
 
+    def test_names(self) -> None:
+        """The title says which graph it is, and files are named as they were given; the page takes the place of none of them."""
+        folder = copied(EXAMPLES / "governor", self.folder / "mine")
+        for words, title in ((["graph.json"], "mine/graph.json"), (["graph.json", "--title", "review"], "review"),
+                             ([folder / "graph.json"], str(folder / "graph.json"))):
+            self.has(self.report(*words, folder=folder)[1], f"<title>{title}</title>", f"<h1>{title}</h1>", f"$ ptides run {words[0]}\n")
+        shutil.copytree(EXAMPLES / "stand", self.folder / "stand")
+        _, page = self.report("scenarios/a_lost", folder=self.folder / "stand")
+        self.has(page, "<title>scenarios/a_lost</title>", "<td>graph.json</td>", "$ ptides bench scenarios/a_lost")
+        self.has(self.report("scenarios", folder=self.folder / "stand")[1], "<title>stand/scenarios</title>")
+        for name in ("graph.json", "speed.csv", "../mine/graph.json"):
+            before = (folder / name).read_bytes()
+            done = companion("report", "graph.json", "-o", name, folder=folder)
+            self.assertEqual((done.status, done.notes), (1, f"ptides report: the page can't be written to {name}, which is a file of the run\n"))
+            self.assertEqual((folder / name).read_bytes(), before)
+
     def test_graph_and_growth(self) -> None:
         """The picture with offsets and margins, and how far each number may grow."""
         _, page = self.report("graph.json", folder=EXAMPLES / "missed")
@@ -152,8 +168,8 @@ class Report(Case):
         self.assertEqual(done.status, 0)
         self.assertLess(len(page), 5_000_000)
         counts = {each["name"]: len(each["t"]) for each in coded(page)["signals"] if each["group"] == "trends"}
-        self.assertEqual(counts, {"level": 50_000, "pump": 50_000})
-        self.has(page, "Not shown, since a run that watches them too would be too long: double, more.")
+        self.assertEqual(counts, {"level": 50_000, "double": 50_000, "more": 50_000, "pump": 50_000})
+        self.assertNotIn("Not shown", page)
         noise = random.Random(7)
         signals = [series.Signal(f"n{number}", "p", "inner", "trends", sorted(noise.sample(range(10**9), 50_000)),
                                  [noise.getrandbits(60) for _ in range(50_000)], missed=[1, 49_999]) for number in range(8)]

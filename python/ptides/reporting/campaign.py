@@ -10,9 +10,11 @@ from typing import Any, Callable, Iterable, Mapping, Optional
 
 from ptides.companions import program_itself
 from ptides.program import Fault, Refused, find_program
-from ptides.reporting.gather import Asked, Gathered, add_graph, gather, versions
+from ptides.reporting.gather import add_graph, gather
+from ptides.reporting.gathered import Asked, Gathered
 from ptides.reporting.page import (MOST_DATA, Wall, data, deadlines_part, document, files_table, graph_part, made_by, marked, missed_part,
                                 network_part, section, table, tag, timing_part, trends_part, verdict)
+from ptides.reporting.sources import versions
 from ptides.reporting.stamps import Zero
 from ptides.scenarios import Outcome, Scenario, run_here, scenarios_of, word_meanings
 
@@ -46,8 +48,14 @@ def asked_of(scenario: Scenario) -> Asked:
     words = word_meanings(scenario.words)
     if words.command not in ("run", "replay"):
         raise Fault(f"`{words.command}` is no run, and has no trends")
-    air = scenario.folder / words.other if words.command == "replay" else None
-    return Asked(scenario.folder / words.graph, air, words.clock, scenario.folder)
+    graph, air = (plain_path(scenario.folder / word) for word in (words.graph, words.other))
+    return Asked(graph, air if words.command == "replay" else None, words.clock, scenario.folder)
+
+
+def plain_path(path: Path) -> Path:
+    """The path without `..`, if that is the same file."""
+    plain = Path(os.path.normpath(path))
+    return plain if os.path.realpath(plain) == os.path.realpath(path) else path
 
 
 def names_of(scenarios: list[Scenario]) -> list[str]:
@@ -134,8 +142,8 @@ def of_the_graph(all_of_them: list[Tried]) -> str:
     return section("graph", "Graph", graph_part(found[0])) + section("timing", "What may grow", timing_part(found[0]))
 
 
-def campaign_page(folders: list[str], title: str, zero_of: ZeroOf) -> tuple[str, int]:
-    """The page of all scenarios, and 1 if one of them didn't give what is stored."""
+def campaign_page(folders: list[str], title: str, zero_of: ZeroOf) -> tuple[str, int, list[Gathered]]:
+    """The page of all scenarios, 1 if one of them didn't give what is stored, and the runs."""
     all_of_them = all_tried(folders)
     failed = [each for each in all_of_them if each.outcome.message()]
     text = f"{len(all_of_them) - len(failed)} of {len(all_of_them)} scenarios gave what is stored"
@@ -145,7 +153,7 @@ def campaign_page(folders: list[str], title: str, zero_of: ZeroOf) -> tuple[str,
     body = "".join(details(each, zero_of, most, each.key in opened) for each in all_of_them)
     parts = section("summary", "All scenarios", summary(all_of_them)) + section("each", "Each", body) + of_the_graph(all_of_them)
     parts += section("what", "What was run", tag("pre", escape("\n".join(["$ ptides bench " + " ".join(folders), "", *versions()]))) + made_by())
-    return document(title, tag("main", head + parts)), int(bool(failed))
+    return document(title, tag("main", head + parts)), int(bool(failed)), [each.found for each in all_of_them if each.found]
 
 
 def are_folders(words: list[str]) -> bool:

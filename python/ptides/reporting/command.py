@@ -1,17 +1,19 @@
 """`ptides report`: the words, and the file that is written."""
 from __future__ import annotations
 
+import os
 from contextlib import contextmanager
 from functools import partial
 from pathlib import Path
-from typing import Any, Iterator, Mapping, Optional
+from typing import Any, Iterator, Mapping, Optional, Union
 
 from ptides import companion, wall_time
 from ptides.files import kept
 from ptides.graphs import is_lasting
 from ptides.program import Fault
 from ptides.reporting.campaign import are_folders, campaign_page
-from ptides.reporting.gather import Asked, gather
+from ptides.reporting.gather import gather
+from ptides.reporting.gathered import Asked, Gathered
 from ptides.reporting.page import page
 from ptides.reporting.stamps import Zero, zero_of
 
@@ -38,7 +40,7 @@ def parser() -> companion.Parser:
     found.add_argument("--zero", metavar="STAMP", help="the wall time of 0, as 2026-03-29T00:58:00Z (default: what `ptides rows` keeps beside "
                        "the sensor files)")
     found.add_argument("--zone", metavar="ZONE", help="the zone of the clock on the wall, as UTC, Europe/Berlin or +01:00 (default: UTC)")
-    found.add_argument("--title", metavar="TEXT", help="the title of the page (default: the path of the graph)")
+    found.add_argument("--title", metavar="TEXT", help="the title of the page (default: the path of the graph, with its folder)")
     return found
 
 
@@ -69,19 +71,42 @@ def stated_zero(stamp: Optional[str], zone: Optional[str], graph: Mapping[str, A
     return None if found is None else zero_of(found, place)
 
 
+def title_of(path: Path) -> str:
+    """What a page is called: the path as it was given, with the folder that it is in if the path doesn't say that."""
+    if path.is_absolute() or len(path.parts) > 1 and path.parts[0] != "..":
+        return str(path)
+    return "/".join(Path(os.path.abspath(path)).parts[-2:]).lstrip("/")
+
+
+def read_files(found: Gathered) -> Iterator[Path]:
+    """The files of a run."""
+    asked = found.asked
+    yield asked.graph
+    yield from [asked.air] if asked.air else []
+    yield from (asked.folder / actor["file"] for actor in found.graph["actors"] if actor["kind"] == "sensor")
+
+
+def write_page(file: Union[str, os.PathLike], text: str, *runs: Gathered) -> None:
+    """Writes the page, unless one of the files of the runs would be lost."""
+    target = os.path.realpath(file)
+    if file != "-" and any(os.path.realpath(path) == target for found in runs for path in read_files(found)):
+        raise Fault(f"the page can't be written to {file}, which is a file of the run")
+    companion.write(file, text)
+
+
 def main() -> int:
     """Runs, and writes the page."""
     given = parser().parse_args()
     if are_folders(given.words):
-        title = given.title or " ".join(given.words)
-        text, status = campaign_page(given.words, title, partial(stated_zero, given.zero, given.zone))
-        companion.write(given.output or "scenarios.html", text)
+        title = given.title or " ".join(title_of(Path(word)) for word in given.words)
+        text, status, runs = campaign_page(given.words, title, partial(stated_zero, given.zero, given.zone))
+        write_page(given.output or "scenarios.html", text, *runs)
         return status
     asked = asked_of(given.words, given.clock)
     with once_read(asked) as ready:
         found = gather(ready)
-    text = page(found, given.title or str(asked.graph), stated_zero(given.zero, given.zone, found.graph, Path.cwd()))
-    companion.write(given.output or f"{asked.graph.stem or 'graph'}.html", text)
+        text = page(found, given.title or title_of(asked.graph), stated_zero(given.zero, given.zone, found.graph, Path.cwd()))
+        write_page(given.output or f"{asked.graph.stem or 'graph'}.html", text, found)
     if found.refused:
         companion.say(found.refused.line)
     return found.status

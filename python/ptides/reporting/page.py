@@ -11,7 +11,7 @@ from pathlib import Path
 from typing import Any, Iterable, Optional
 
 from ptides.program import Fault, version
-from ptides.reporting.gather import Gathered
+from ptides.reporting.gathered import Gathered
 from ptides.reporting.series import Signal, fitted
 from ptides.reporting.stamps import Zero
 
@@ -255,8 +255,8 @@ def made_by() -> str:
 
 def what_part(found: Gathered) -> str:
     """The command, the version and the files."""
-    command = " ".join(["ptides", *found.asked.words()])
-    return tag("pre", escape("\n".join([f"$ {command}", f"status {found.status}", "", *found.version]))) + files_table(found) + made_by()
+    lines = [found.asked.command(), f"status {found.status}", "", *found.version]
+    return tag("pre", escape("\n".join(lines))) + files_table(found) + made_by()
 
 
 def sections(found: Gathered, wall: Wall) -> list[tuple[str, str]]:
