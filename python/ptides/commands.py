@@ -26,6 +26,13 @@ Sensors = Mapping[str, Any]
 NOTHING: Sensors = {}
 
 
+def given(sensors: Sensors, more: Sensors) -> dict[str, Any]:
+    """The sensors of both kinds."""
+    if not isinstance(sensors, Mapping):
+        raise Fault(f"sensors: {type(sensors).__name__} is no dict of sensors by their names")
+    return {**sensors, **more}
+
+
 def run(graph: Graph, *, clock: Clock = "paced", workers: Optional[int] = None, log: bool = True, until: Any = None, zero: Any = None,
         probes: Union[bool, Iterable[str]] = (), folder: Optional[PathLike] = None, sensors: Sensors = NOTHING, **more: Any) -> Result:
     """Runs a graph. Misses are part of the result; any other fault raises `Refused`.
@@ -39,7 +46,7 @@ def run(graph: Graph, *, clock: Clock = "paced", workers: Optional[int] = None, 
         >>> result.events["valve"]
         [Event(time=3500, step=0, value=1), Event(time=4500, step=0, value=0)]
     """
-    changes = Changes({**sensors, **more}, zero, until, probes)
+    changes = Changes(given(sensors, more), zero, until, probes)
     words = [*options_of(clock, workers), *(["--log"] if log else [])]
     with placed(graph, folder, changes) as ready:
         return Result(ask(["run", ready.word, *words], ready, (0, 5)), ready)
@@ -48,14 +55,14 @@ def run(graph: Graph, *, clock: Clock = "paced", workers: Optional[int] = None, 
 def meaning(graph: Graph, *, until: Any = None, zero: Any = None, probes: Union[bool, Iterable[str]] = (),
             folder: Optional[PathLike] = None, sensors: Sensors = NOTHING, **more: Any) -> Result:
     """What the definition says that a graph does: the tables alone, whatever its bounds and slacks, and whichever rows are late."""
-    with placed(graph, folder, Changes({**sensors, **more}, zero, until, probes)) as ready:
+    with placed(graph, folder, Changes(given(sensors, more), zero, until, probes)) as ready:
         return Result(ask(["meaning", ready.word], ready), ready)
 
 
 def replay(graph: Graph, air: Any, *, log: bool = True, until: Any = None, zero: Any = None, probes: Union[bool, Iterable[str]] = (),
            folder: Optional[PathLike] = None, sensors: Sensors = NOTHING, **more: Any) -> Result:
     """Runs a graph over a recorded network: `air` is the path of an air file, or a DataFrame with its columns."""
-    changes = Changes({**sensors, **more}, zero, until, probes)
+    changes = Changes(given(sensors, more), zero, until, probes)
     with placed(graph, folder, changes) as ready, files.air_file(air) as path:
         return Result(ask(["replay", ready.word, path, *(["--log"] if log else [])], ready, (0, 5)), ready)
 
@@ -88,7 +95,7 @@ def audit(graph: Graph, log: Union[PathLike, Result], *, folder: Optional[PathLi
         >>> audit("examples/governor", result).lawful
         True
     """
-    with placed(graph, folder, Changes({**sensors, **more})) as ready, files.kept(log_text(log)) as path:
+    with placed(graph, folder, Changes(given(sensors, more))) as ready, files.kept(log_text(log), "log") as path:
         done = ask(["audit", ready.word, path], ready, (0, 10))
         if not done.status:
             return Verdict()
@@ -97,7 +104,9 @@ def audit(graph: Graph, log: Union[PathLike, Result], *, folder: Optional[PathLi
 
 def log_text(log: Union[PathLike, Result]) -> Union[str, PathLike]:
     """The text of a log that a run wrote, or the path of a file."""
-    return log.output if isinstance(log, Result) else Path(os.path.abspath(log))
+    if not isinstance(log, (str, os.PathLike, Result)):
+        raise Fault(f"log: {type(log).__name__} is no path, and no result")
+    return log.output if isinstance(log, Result) else Path(log)
 
 
 def report(graph: Graph, file: PathLike, *, air: Any = None, clock: Clock = "paced", until: Any = None, zero: Any = None, title: str = "",
@@ -105,7 +114,7 @@ def report(graph: Graph, file: PathLike, *, air: Any = None, clock: Clock = "pac
     """Runs a graph, or replays it over the recorded network `air`, and writes the page of the run. Gives the status of the run."""
     from ptides.reporting.from_python import write_report
 
-    return write_report(graph, file, air, clock, Changes({**sensors, **more}, zero, until), title, folder)
+    return write_report(graph, file, air, clock, Changes(given(sensors, more), zero, until), title, folder)
 
 
 class Growth(NamedTuple):
@@ -168,7 +177,7 @@ def lint(graph: Graph, *, folder: Optional[PathLike] = None, sensors: Sensors = 
         >>> [remark.text[:11] for remark in lint("examples/missed")]
         ['margin -101']
     """
-    with placed(graph, folder, Changes({**sensors, **more})) as ready:
+    with placed(graph, folder, Changes(given(sensors, more))) as ready:
         output = ask_companion("lint", [ready.word], ready).output
         found = re.findall(r"^" + re.escape(ready.word) + r"(?::(\d+))?: warning: (.*)$", output, re.MULTILINE)
     return Rows(Remark, (Remark(int(line) if line else None, text) for line, text in found))
@@ -176,29 +185,40 @@ def lint(graph: Graph, *, folder: Optional[PathLike] = None, sensors: Sensors = 
 
 def options_of(clock: Clock, workers: Optional[int]) -> list[str]:
     """The options of `run` for these; what is usual has none."""
-    word = clock if isinstance(clock, str) else ":".join(map(str, clock))
+    word = ":".join(map(str, clock)) if isinstance(clock, (tuple, list)) else str(clock)
     return [*([] if word == "paced" else ["--clock", word]), *([] if workers is None else ["--workers", str(workers)])]
 
 
 def ask(words: list[str], ready: Placed, accepted: Collection[int] = (0,)) -> Done:
     """What the program answers. A status that isn't accepted raises `Refused`, with what `explain` shows."""
     done = program.run(words, folder=ready.folder, program=companions.program_itself(program.find_program()))
-    if done.status not in accepted:
-        raise Refused(done, explanation_of(words, ready, done.line))
-    return done
+    if done.status in accepted:
+        return done
+    explanation = explanation_of(words, ready, done.line)
+    expected = re.search(r"= expected: (.*)", explanation)
+    if done.line.startswith("usage: ") and expected:
+        raise Fault(f"{expected[1]}; not `{' '.join(word for word in words[2:] if word != '--log')}`")
+    unread = re.match(r"read fault: sensor (\w+)", done.line)
+    if unread and unread[1] in ready.rows_names:
+        # The graph that was run has a link to the file.
+        files.readable(ready.home / ready.rows_names[unread[1]], f"sensor {unread[1]}")
+    raise Refused(done, explanation)
 
 
 def explanation_of(words: list[str], ready: Placed, line: str) -> str:
     """What `explain` shows of a line; of a fault in a file that the user knows, at its place there."""
     folder, words = ready.folder, list(words)
-    if line.startswith("graph: ") and ready.origin is not None:
-        folder = Path.cwd()
-        words[1] = str(ready.origin)
+    if ready.origin is not None and line.startswith("graph: "):
+        folder, words[1] = Path.cwd(), str(ready.origin)
     try:
-        done = companions.call("explain", "--line", line, *words, folder=folder)
+        text = companions.call("explain", "--line", line, *words, folder=folder).output
     except Fault:
         return ""
-    return done.output.strip("\n")
+    # A changed graph has links to the files that the user knows.
+    for name, known in ready.rows_names.items():
+        if (ready.home / known).is_file():
+            text = text.replace(f" --> {name}.csv:", f" --> {known}:")
+    return text.strip("\n")
 
 
 def ask_companion(name: str, words: list[str], ready: Placed) -> Done:

@@ -2,6 +2,7 @@
 from __future__ import annotations
 
 import csv
+import errno
 import os
 import tempfile
 from contextlib import contextmanager
@@ -13,11 +14,20 @@ from ptides.program import Fault
 AIR = ["what", "name", "value"]
 
 
+def readable(path: Union[str, os.PathLike], what: str) -> str:
+    """The whole path of a file that can be read; `what` is what the user gave it for."""
+    path = os.fspath(path)
+    wrong = errno.ENOENT if not os.path.exists(path) else errno.EISDIR if os.path.isdir(path) else 0 if os.access(path, os.R_OK) else errno.EACCES
+    if wrong:
+        raise Fault(f"{what}: cannot read {path}: {os.strerror(wrong)}")
+    return os.path.abspath(path)
+
+
 @contextmanager
-def kept(text: Union[str, os.PathLike]) -> Iterator[str]:
-    """The path of a file with this text, which is removed afterwards; or the path itself, if it is one."""
+def kept(text: Union[str, os.PathLike], what: str = "file") -> Iterator[str]:
+    """The path of a file with this text, which is removed afterwards; or the path itself, if it is one. `what` is what it is for."""
     if isinstance(text, os.PathLike):
-        yield os.path.abspath(text)
+        yield readable(text, what)
         return
     with tempfile.TemporaryDirectory(prefix="ptides-") as work:
         file = Path(work, "text")
@@ -28,8 +38,11 @@ def kept(text: Union[str, os.PathLike]) -> Iterator[str]:
 @contextmanager
 def air_file(air: Any) -> Iterator[str]:
     """The path of the recording of a network: a path, or a DataFrame with the columns of an air file."""
-    source = Path(air) if isinstance(air, (str, os.PathLike)) else air[AIR].to_csv(index=False)
-    with kept(source) as path:
+    try:
+        source = Path(air) if isinstance(air, (str, os.PathLike)) else air[AIR].to_csv(index=False)
+    except (TypeError, KeyError, IndexError, AttributeError) as fault:
+        raise Fault(f"air: {type(air).__name__} is no path, and no DataFrame with the columns {', '.join(AIR)}") from fault
+    with kept(source, "air") as path:
         yield path
 
 

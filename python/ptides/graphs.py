@@ -8,6 +8,7 @@ import re
 import tempfile
 from contextlib import contextmanager
 from dataclasses import dataclass, field
+from operator import index
 from pathlib import Path
 from typing import Any, Iterable, Iterator, Mapping, Optional, Union
 
@@ -42,13 +43,14 @@ class Changes:
 class Placed:
     """A graph that is ready: the folder to run in, the word that names the graph, its text, the zero of its times, its probes.
 
-    `origin` is the file that the user knows, if the graph has one. `rows_names` says what the user calls the rows of each sensor, if the
-    graph was changed.
+    `home` is the folder from which the sensor files are looked up, and `origin` the file that the user knows, if the graph has one. If
+    the graph was changed, `rows_names` says what the user calls the rows of each sensor.
     """
 
     folder: Path
     word: str
     text: bytes
+    home: Path
     zero: Any = None
     probes: dict[str, Output] = field(default_factory=dict)
     origin: Optional[Path] = None
@@ -61,16 +63,26 @@ class Placed:
 
 
 def text_of(graph: Mapping[str, Any]) -> str:
-    """A graph as text, with a line for each entry of an array."""
+    """A graph as text, with a line for each entry of an array. Whole numbers may be of any kind, as those of numpy."""
     parts = []
     for key, value in graph.items():
-        entries = ",\n  ".join(json.dumps(entry, separators=(",", ":")) for entry in value) if isinstance(value, list) else ""
-        parts.append(f"{json.dumps(key)}:" + (f"[\n  {entries}]" if entries else json.dumps(value)))
+        entries = ",\n  ".join(coded(entry) for entry in value) if isinstance(value, list) else ""
+        parts.append(f"{json.dumps(key)}:" + (f"[\n  {entries}]" if entries else coded(value)))
     return "{" + ",\n ".join(parts) + "}\n"
+
+
+def coded(value: Any) -> str:
+    """A part of a graph as JSON."""
+    try:
+        return json.dumps(value, separators=(",", ":"), default=index)
+    except (TypeError, ValueError) as fault:
+        raise Fault(f"graph: {fault}") from fault
 
 
 def file_of(graph: Union[str, os.PathLike]) -> Path:
     """The file of a graph: the path, or `graph.json` in the folder that it names."""
+    if not isinstance(graph, (str, os.PathLike)):
+        raise Fault(f"graph: {type(graph).__name__} is no path, and no dict")
     path = Path(graph)
     return path / USUAL if path.is_dir() else path
 
@@ -94,13 +106,22 @@ def placed(graph: Graph, folder: Optional[Union[str, os.PathLike]], changes: Cha
     written into a folder of its own, which is removed afterwards, with links to the sensor files.
     """
     path = None if isinstance(graph, Mapping) else file_of(graph)
-    home = Path(os.path.abspath(folder or (path.parent if path else ".")))
+    home = home_of(folder, path)
     text = text_of(graph).encode() if path is None else read(path)
     if path is not None and is_lasting(path) and not changes:
-        yield Placed(home, word_of(path, home), text, zero_of(text, home, changes), origin=path)
+        yield Placed(home, word_of(path, home), text, home, zero_of(text, home, changes), origin=path)
         return
     with tempfile.TemporaryDirectory(prefix="ptides-") as work:
         yield changed(Path(work), home, text, changes, path)
+
+
+def home_of(folder: Optional[Union[str, os.PathLike]], path: Optional[Path]) -> Path:
+    """From where sensor files are looked up: the folder that is named, else that of the graph's file, else the current one."""
+    if folder is None:
+        return Path(os.path.abspath(path.parent if path else "."))
+    if not isinstance(folder, (str, os.PathLike)) or not os.path.isdir(folder):
+        raise Fault(f"folder: {folder} is no folder")
+    return Path(os.path.abspath(folder))
 
 
 def zero_of(text: bytes, home: Path, changes: Changes) -> Any:
@@ -125,11 +146,13 @@ def changed(work: Path, home: Path, text: bytes, changes: Changes, origin: Optio
     else:
         if changes.until is not None:
             graph["until"] = times.microseconds(changes.until, zero, "until")
+            if graph["until"] < 0:
+                raise Fault(f"until: {changes.until} is below 0")
         if changes.probes:
             graph, probed = probes.with_probes(graph, watched(graph, changes.probes))
         text = text_of(graph).encode()
     (work / USUAL).write_bytes(text)
-    return Placed(work, USUAL, text, zero, probed, origin, names)
+    return Placed(work, USUAL, text, home, zero, probed, origin, names)
 
 
 def place_sensors(graph: dict[str, Any], work: Path, home: Path, given: Mapping[str, Any], zero: Any) -> dict[str, str]:
@@ -149,7 +172,10 @@ def place_sensors(graph: dict[str, Any], work: Path, home: Path, given: Mapping[
         data = given.get(actor["name"])
         actor["file"], file = f"{actor['name']}.csv", actor["file"]
         called[actor["name"]] = file if data is None else sensors.name_of(data)
-        sensors.write(actor["name"], home / file if data is None else data, work / actor["file"], zero)
+        if data is None:
+            (work / actor["file"]).symlink_to(home / file)
+        else:
+            sensors.write(actor["name"], data, work / actor["file"], zero)
     return called
 
 
@@ -158,6 +184,8 @@ def watched(graph: dict[str, Any], chosen: Union[bool, Iterable[str]]) -> list[O
     outputs = list(probes.all_outputs(graph))
     if chosen is True:
         return outputs
+    if not isinstance(chosen, Iterable):
+        raise Fault(f"probes: {chosen!r} is no list of actors, and not True")
     names = [chosen] if isinstance(chosen, str) else list(chosen)
     for name in names:
         if name not in {of for of, _ in outputs}:

@@ -11,6 +11,7 @@ from pathlib import Path
 from typing import Any, Mapping, Optional
 
 from ptides import wall_time
+from ptides.files import readable
 from ptides.program import Fault
 from ptides.recorded import Recorded
 from ptides.times import numbers_of, second_before, stamp_of
@@ -110,7 +111,7 @@ def write(name: str, data: Any, path: Path, zero: Optional[Any]) -> None:
         path.write_text(data.text)
         return
     if is_file(data):
-        path.symlink_to(os.path.abspath(data))
+        path.symlink_to(readable(data, f"sensor {name}"))
         return
     import pandas
 

@@ -6,6 +6,7 @@ from __future__ import annotations
 
 from datetime import date, timedelta
 from fractions import Fraction
+from numbers import Number
 from typing import Any, Iterable
 
 from ptides import wall_time
@@ -26,11 +27,13 @@ def microseconds(value: Any, zero: Any, what: str) -> int:
 
 def span_of(stamp: Any, zero: Any, what: str) -> timedelta:
     """How long after the zero a wall time is."""
-    import pandas
-
+    found = stamp_of(stamp, what)
     if zero is None:
         raise Fault(f"{what}: {stamp} is a time of the wall clock, and no sensor has such times: name a zero")
-    return pandas.Timestamp(stamp) - stamp_of(zero)
+    try:
+        return found - stamp_of(zero)
+    except TypeError as fault:
+        raise Fault(f"{what}: of {stamp} and the zero, {zero}, one has a time zone and one has none") from fault
 
 
 def numbers_of(index: Any, zero: Any, what: str) -> Any:
@@ -59,13 +62,16 @@ def second_before(stamps: Iterable[Any]) -> Any:
     return None if first is None else first.floor("s")
 
 
-def stamp_of(zero: Any) -> Any:
-    """A zero as pandas has it; a number of seconds since the start of 1970 is in UTC."""
+def stamp_of(zero: Any, what: str = "zero") -> Any:
+    """A wall time as pandas has it; a number of seconds since the start of 1970, which only a file has, is in UTC."""
     if zero is None:
         return None
     import pandas
 
     try:
-        return pandas.Timestamp(wall_time.text_of(zero) if isinstance(zero, Fraction) else zero)
-    except ValueError as fault:
-        raise Fault(f"{zero} is no time of the wall clock: {fault}") from fault
+        stamp = pandas.Timestamp(wall_time.text_of(zero) if isinstance(zero, Fraction) else zero)
+    except (ValueError, TypeError, OverflowError):
+        stamp = pandas.NaT
+    if stamp is pandas.NaT or isinstance(zero, Number) and not isinstance(zero, Fraction):
+        raise Fault(f"{what}: {zero!r} is no time of the wall clock, as 2026-03-29T00:58:00Z")
+    return stamp

@@ -108,11 +108,50 @@ class Plain(Case):
         self.assertIn("\n --> s.csv:3:4\n", str(caught.exception))
         self.assertIn("a bound of 11 takes all rows", caught.exception.explanation)
 
+    def test_bad_words(self) -> None:
+        """What a call can't use is one line that names the option and what was given."""
+        network = EXAMPLES / "network"
+        for call, line in ((lambda: ptides.run(GOVERNOR, speed="no.csv"), "sensor speed: cannot read no.csv: No such file or directory"),
+                           (lambda: ptides.run(GOVERNOR, speed="/"), "sensor speed: cannot read /: Is a directory"),
+                           (lambda: ptides.run(GOVERNOR, clock="sundial"), "`--clock` takes .*; not `--clock sundial`"),
+                           (lambda: ptides.run(GOVERNOR, clock=5), "`--clock` takes .*; not `--clock 5`"),
+                           (lambda: ptides.run(GOVERNOR, workers=0), "`--workers` takes a number .*; not `--workers 0`"),
+                           (lambda: ptides.run(GOVERNOR, until=-5), "until: -5 is below 0"),
+                           (lambda: ptides.run(GOVERNOR, until=1.5), "until: 1.5 is no time"),
+                           (lambda: ptides.run(GOVERNOR, folder="/nowhere"), "folder: /nowhere is no folder"),
+                           (lambda: ptides.run(GOVERNOR, probes=5), "probes: 5 is no list of actors"),
+                           (lambda: ptides.run(GOVERNOR, sensors=["speed"]), "sensors: list is no dict"),
+                           (lambda: ptides.run("no.json"), "cannot read no.json: No such file or directory"),
+                           (lambda: ptides.run(5), "graph: int is no path, and no dict"),
+                           (lambda: ptides.run({"until": object()}), "graph: .*object"),
+                           (lambda: ptides.replay(network, "no.csv"), "air: cannot read no.csv: No such file or directory"),
+                           (lambda: ptides.replay(network, 5), "air: int is no path, and no DataFrame with the columns what, name, value"),
+                           (lambda: ptides.audit(GOVERNOR, "no.log"), "log: cannot read no.log: No such file or directory"),
+                           (lambda: ptides.audit(GOVERNOR, 5), "log: int is no path, and no result")):
+            with self.subTest(line=line), self.assertRaisesRegex(ptides.Fault, f"^{line}"):
+                try:
+                    call()
+                except ptides.Fault as fault:
+                    self.assertNotIn("\n", str(fault))
+                    raise
+
+    def test_faults_of_a_file_have_its_path(self) -> None:
+        """Of another file for a sensor, since a link to it was read."""
+        rows = self.folder / "my rows.csv"
+        rows.write_text("time,seen,value\n5,5,1\n5,5,1\n")
+        with self.assertRaises(ptides.Refused) as caught:
+            ptides.run(GOVERNOR, speed=rows)
+        self.assertIn(f" --> {rows}:3:1\n", str(caught.exception))
+        graph = json.loads((GOVERNOR / "graph.json").read_text())
+        graph["actors"][0]["file"] = "no.csv"
+        with self.assertRaisesRegex(ptides.Fault, f"^sensor speed: cannot read {GOVERNOR / 'no.csv'}: No such file or directory$"):
+            ptides.run(graph, folder=GOVERNOR)
+
     def test_faults_of_a_graph_have_the_place_in_its_file(self) -> None:
         """Also if another file was given for a sensor, since then a changed copy was run."""
         unknown = EXAMPLES / "refused" / "unknown"
         with self.assertRaises(ptides.Refused) as caught:
-            ptides.run(unknown, s=unknown / "s.csv")
+            ptides.run(unknown, s=GOVERNOR / "speed.csv")
         self.assertIn(f" --> {unknown / 'graph.json'}:6:18\n", str(caught.exception))
 
     def test_what_is_no_graph(self) -> None:
@@ -327,6 +366,12 @@ class Frames(Case):
             ptides.run(GOVERNOR, speed=self.series([1], wall), zero="2026-03-29T00:00:00Z")
         with self.assertRaisesRegex(ptides.Fault, "name a zero"):
             ptides.run(GOVERNOR, until=wall[0])
+        for zero in ("soon", 5, pandas.NaT):
+            with self.assertRaisesRegex(ptides.Fault, "^zero: .* is no time of the wall clock, as "):
+                ptides.run(GOVERNOR, zero=zero)
+        for until, line in (("soon", "until: 'soon' is no time of the wall clock"), ("2026-01-01", "until: .* one has a time zone and one has none")):
+            with self.assertRaisesRegex(ptides.Fault, line):
+                ptides.run(GOVERNOR, until=until, zero="2026-01-01T00:00:00Z")
         # What the program refuses is refused by it.
         with self.assertRaises(ptides.Refused) as caught:
             ptides.run(GOVERNOR, speed=self.series([1, 2], [5, 5]))

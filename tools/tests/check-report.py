@@ -12,7 +12,7 @@ import shutil
 import subprocess
 import sys
 import tempfile
-import unittest
+import unittest.mock
 from pathlib import Path
 
 import pythons
@@ -150,11 +150,23 @@ class Report(Case):
         self.passes_refusals_on("report")
         self.refuses_bad_input("report")
         for words, line in ((("replay", "graph.json"), "replay takes a graph and an air file"),
-                            (("graph.json", "--zero", "tomorrow"), "`tomorrow` is no stamp"), (("a", "b"), "run takes one graph"),
+                            (("replay", "graph.json", "no.csv"), "air: cannot read no.csv: No such file or directory"),
+                            (("graph.json", "--zero", "tomorrow"), "--zero: `tomorrow` is no stamp"), (("a", "b"), "run takes one graph"),
+                            (("graph.json", "--zone", "Nowhere"), "--zone: `Nowhere` is no time zone"), (("",), "cannot read .: Is a directory"),
+                            (("graph.json", "--clock", "sundial"), "START from 0 and STEP from 1, to 10^15; not `--clock sundial`"),
+                            (("graph.json", "--zero", "9999-12-31T23:59:59.999999Z"), "a time of the run is before the year 1 or after the year 9999"),
                             (("graph.json", "-o", "/nowhere/x.html"), "cannot write /nowhere/x.html")):
             done = companion("report", *words, folder=EXAMPLES / "basic")
             self.assertEqual((done.status, done.output, done.notes.count("\n")), (1, "", 1))
             self.assertIn(line, done.notes)
+        for words, folder, line in ((["graph.json"], self.folder, "sensor s: cannot read s.csv: No such file or directory"),
+                                    (["basic/graph.json"], EXAMPLES, "sensor s: cannot read s.csv: No such file or directory; "
+                                     "it is beside the graph: ptides -C basic report graph.json")):
+            (self.folder / "graph.json").write_bytes((EXAMPLES / "basic/graph.json").read_bytes())
+            self.assertEqual(companion("report", *words, folder=folder), (7, "", f"ptides report: {line}\n"))
+        with unittest.mock.patch.dict(os.environ, SOURCE_DATE_EPOCH="soon"):
+            self.assertEqual(self.report("graph.json", folder=EXAMPLES / "basic")[0],
+                             (1, "", "ptides report: SOURCE_DATE_EPOCH: `soon` is no number of seconds since the start of 1970\n"))
         os.environ["PTIDES_DYGRAPHS"] = "/nowhere"
         self.addCleanup(os.environ.pop, "PTIDES_DYGRAPHS")
         done, page = self.report("graph.json", folder=EXAMPLES / "basic")

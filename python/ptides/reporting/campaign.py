@@ -118,7 +118,11 @@ def differs(each: Tried) -> str:
 def details(each: Tried, zero_of: ZeroOf, most: int, is_open: bool) -> str:
     """What can be opened of a scenario."""
     content, script = differs(each), ""
-    zero = zero_of(each.found.graph, each.scenario.folder) if each.found else None
+    zero = None
+    try:
+        zero = zero_of(each.found.graph, each.scenario.folder) if each.found else None
+    except Fault as fault:
+        content += tag("p", escape(f"Times are seconds from 0: {fault}"))
     wall = Wall(zero)
     if each.refused:
         content += tag("pre", escape(each.refused))
@@ -158,4 +162,4 @@ def campaign_page(folders: list[str], title: str, zero_of: ZeroOf) -> tuple[str,
 
 def are_folders(words: list[str]) -> bool:
     """Whether all words are folders, of scenarios."""
-    return all(Path(word).is_dir() for word in words)
+    return all(word and Path(word).is_dir() for word in words)

@@ -1,16 +1,17 @@
 """`ptides report`: the words, and the file that is written."""
 from __future__ import annotations
 
+import json
 import os
 from contextlib import contextmanager
 from functools import partial
 from pathlib import Path
-from typing import Any, Iterator, Mapping, Optional, Union
+from typing import Any, Callable, Iterator, Mapping, Optional, Union
 
 from ptides import companion, wall_time
-from ptides.files import kept
+from ptides.files import kept, readable
 from ptides.graphs import is_lasting
-from ptides.program import Fault
+from ptides.program import Fault, Refused
 from ptides.reporting.campaign import are_folders, campaign_page
 from ptides.reporting.gather import gather
 from ptides.reporting.gathered import Asked, Gathered
@@ -66,9 +67,17 @@ def once_read(asked: Asked) -> Iterator[Asked]:
 
 def stated_zero(stamp: Optional[str], zone: Optional[str], graph: Mapping[str, Any], folder: Path) -> Optional[Zero]:
     """The zero that the words state, or else the one that is kept beside the sensor files."""
-    place = wall_time.zone_of(zone) if zone else None
-    found = wall_time.seconds(stamp, place) if stamp else wall_time.zero_of(graph, folder)
+    place = stated("--zone", wall_time.zone_of, zone) if zone else None
+    found = stated("--zero", wall_time.seconds, stamp, place) if stamp else wall_time.zero_of(graph, folder)
     return None if found is None else zero_of(found, place)
+
+
+def stated(option: str, read: Callable[..., Any], *words: Any) -> Any:
+    """What an option says; what is wrong in it is said with its name."""
+    try:
+        return read(*words)
+    except Fault as fault:
+        raise Fault(f"{option}: {fault}") from fault
 
 
 def title_of(path: Path) -> str:
@@ -76,6 +85,32 @@ def title_of(path: Path) -> str:
     if path.is_absolute() or len(path.parts) > 1 and path.parts[0] != "..":
         return str(path)
     return "/".join(Path(os.path.abspath(path)).parts[-2:]).lstrip("/")
+
+
+def gathered(asked: Asked) -> Gathered:
+    """Runs, and collects. Of a sensor file that can't be read its path is said too."""
+    if asked.air is not None:
+        readable(asked.air, "air")
+    try:
+        return gather(asked)
+    except Refused as refused:
+        raise unread(asked, refused) if refused.line.startswith("read fault: sensor ") else refused
+
+
+def unread(asked: Asked, refused: Refused) -> Fault:
+    """The fault that a sensor file can't be read."""
+    name = refused.line.split(" ")[3]
+    graph = json.loads(companion.read(asked.graph))
+    file = next(actor["file"] for actor in graph["actors"] if actor["name"] == name)
+    try:
+        readable(asked.folder / file, f"sensor {name}")
+        return refused
+    except Fault as fault:
+        beside = asked.graph.parent / file
+        better = f"; it is beside the graph: ptides -C {asked.graph.parent} report {asked.graph.name}" if beside.is_file() else ""
+        wrong = Fault(f"{str(fault).replace(str(asked.folder / file), file)}{better}")
+        wrong.status = refused.status
+        return wrong
 
 
 def read_files(found: Gathered) -> Iterator[Path]:
@@ -104,7 +139,7 @@ def main() -> int:
         return status
     asked = asked_of(given.words, given.clock)
     with once_read(asked) as ready:
-        found = gather(ready)
+        found = gathered(ready)
         text = page(found, given.title or title_of(asked.graph), stated_zero(given.zero, given.zone, found.graph, Path.cwd()))
         write_page(given.output or f"{asked.graph.stem or 'graph'}.html", text, found)
     if found.refused:

@@ -239,7 +239,11 @@ def timing_part(found: Gathered) -> str:
 
 def made_at() -> str:
     """When the page was made; SOURCE_DATE_EPOCH is another time, for a page that is the same each time."""
-    now = datetime.fromtimestamp(int(environ["SOURCE_DATE_EPOCH"]), timezone.utc) if environ.get("SOURCE_DATE_EPOCH") else datetime.now(timezone.utc)
+    stated = environ.get("SOURCE_DATE_EPOCH")
+    try:
+        now = datetime.fromtimestamp(int(stated), timezone.utc) if stated else datetime.now(timezone.utc)
+    except (ValueError, OverflowError, OSError) as fault:
+        raise Fault(f"SOURCE_DATE_EPOCH: `{stated}` is no number of seconds since the start of 1970") from fault
     return now.strftime("%Y-%m-%d %H:%M:%S UTC")
 
 

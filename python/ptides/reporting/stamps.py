@@ -12,6 +12,7 @@ from fractions import Fraction
 from typing import Any, NamedTuple, Optional
 
 from ptides import wall_time
+from ptides.program import Fault
 
 START, MICROSECOND = datetime(1970, 1, 1, tzinfo=timezone.utc), timedelta(microseconds=1)
 DAY = 86_400 * 10**6
@@ -33,7 +34,21 @@ class Zero(NamedTuple):
         """How far the clock on the wall is ahead of UTC, in microseconds."""
         if self.zone is None:
             return 0
-        return (START + timedelta(microseconds=self.utc + time)).astimezone(self.zone).utcoffset() // MICROSECOND
+        try:
+            return self.utc_at(time).astimezone(self.zone).utcoffset() // MICROSECOND
+        except OverflowError as fault:
+            raise self.beyond() from fault
+
+    def utc_at(self, time: int) -> datetime:
+        """The time in UTC."""
+        try:
+            return START + timedelta(microseconds=self.utc + time)
+        except OverflowError as fault:
+            raise self.beyond() from fault
+
+    def beyond(self) -> Fault:
+        """The fault that a time has no date."""
+        return Fault(f"with the zero {self.text} a time of the run is before the year 1 or after the year 9999")
 
     def offsets(self, first: int, last: int) -> list[list[int]]:
         """From which time on which offset holds, between these times: a clock may be put forward or back."""
@@ -54,7 +69,7 @@ class Zero(NamedTuple):
 
     def text_of(self, time: int) -> str:
         """What the clock on the wall shows."""
-        shown = START + timedelta(microseconds=self.utc + time + self.offset(time))
+        shown = self.utc_at(time + self.offset(time))
         return shown.strftime("%Y-%m-%d %H:%M:%S") + f".{shown.microsecond:06d}"
 
 
