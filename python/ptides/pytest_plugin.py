@@ -147,10 +147,22 @@ def shown(difference: Difference, notes: str) -> str:
     time = difference.time
     when = "" if time is None else f", at {time / 1e6:.6f} s"
     lines = [f"{difference.file} line {difference.line}{when}"]
-    for label, line in (("expected", difference.expected), ("found", difference.found)):
-        lines.append(f"  {label:8}  {'the end' if line is None else line.rstrip()}")
+    both = difference.expected, difference.found
+    lines += [f"  {label:8}  {visible(line)}" for label, line in zip(("expected", "found"), both)]
+    if None not in both and both[0].rstrip("\r\n") == both[1].rstrip("\r\n"):
+        lines.append("only the ends of the lines differ: the program ends each with a line feed, and Windows with \\r and a line feed")
     many = misses.note(notes).rstrip() if difference.file in ("status", "expected.notes") else ""
     return "\n".join([*lines, *([many] if many else []), "--ptides-update stores what was found; look at it before"])
+
+
+def visible(line: Optional[str]) -> str:
+    """A line without its line feed. What can't be seen in it, such as a carriage return or a space at its end, is written as in Python."""
+    if line is None:
+        return "the end"
+    text = line[:-1] if line.endswith("\n") else line
+    spaces = len(text) - len(text.rstrip(" "))
+    shown = "".join(sign if sign.isprintable() else repr(sign)[1:-1] for sign in text.rstrip(" ")) + spaces * "\\x20"
+    return shown if line.endswith("\n") else f"{shown}, without a line feed"
 
 
 def pytest_terminal_summary(terminalreporter: Any) -> None:

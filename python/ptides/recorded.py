@@ -8,7 +8,7 @@ import tempfile
 from pathlib import Path
 from typing import TYPE_CHECKING, Any, Iterator, Optional, Union
 
-from ptides import companions
+from ptides import companions, frames
 from ptides.program import Refused
 
 if TYPE_CHECKING:
@@ -31,7 +31,7 @@ class Recorded:
     @property
     def frame(self) -> pandas.DataFrame:
         """The rows as a DataFrame with the columns time, seen and value."""
-        import pandas
+        pandas = frames.pandas()
 
         return pandas.read_csv(io.StringIO(self.text), dtype="int64")
 

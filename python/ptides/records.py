@@ -3,6 +3,7 @@ from __future__ import annotations
 
 from typing import TYPE_CHECKING, Any, Generic, Iterable, NamedTuple, Optional, TypeVar, get_type_hints
 
+from ptides import frames
 from ptides.times import stamp_of
 
 if TYPE_CHECKING:
@@ -38,7 +39,7 @@ class Rows(list, Generic[Record]):
 
 def frame_of(kind: type, records: Iterable[tuple], zero: Any = None) -> pandas.DataFrame:
     """Records of one kind as a DataFrame."""
-    import pandas
+    pandas = frames.pandas()
 
     hints = get_type_hints(kind)
     columns = list(zip(*records)) or [()] * len(hints)
@@ -51,7 +52,7 @@ def frame_of(kind: type, records: Iterable[tuple], zero: Any = None) -> pandas.D
 
 def stamps(times: Any, zero: Any) -> Any:
     """These microseconds as times of the wall clock, or without a zero as lengths of time."""
-    import pandas
+    pandas = frames.pandas()
 
     spans = pandas.to_timedelta(times, unit="us")
     return spans if zero is None else stamp_of(zero) + spans

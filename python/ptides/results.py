@@ -5,6 +5,7 @@ import io
 from functools import cached_property
 from typing import TYPE_CHECKING, Any, Iterator, Mapping, Optional, Union
 
+from ptides import frames
 from ptides.graphs import Placed
 from ptides.logs import Entry, entries_of
 from ptides.misses import Miss, misses_of
@@ -55,7 +56,7 @@ class Result:
     @property
     def table(self) -> pandas.DataFrame:
         """The tables as one DataFrame with the columns actuator, time, step and value, and `stamp` if there is a zero."""
-        import pandas
+        pandas = frames.pandas()
 
         frame = pandas.read_csv(io.StringIO(self._tables), dtype=INTEGERS, keep_default_na=False)
         frame = frame[~frame["actuator"].isin(list(self.probes))].reset_index(drop=True)
@@ -65,7 +66,7 @@ class Result:
 
     def __getitem__(self, key: Union[str, Output]) -> pandas.Series:
         """What an actuator did by time; or what an output gave that `probes` watches: the actor, or it and the number of its output."""
-        import pandas
+        pandas = frames.pandas()
 
         events = self.events_at(key)
         values = pandas.Series([event.value for event in events], dtype="int64", name=key if isinstance(key, str) else key[0])
@@ -116,7 +117,7 @@ class Result:
 
     def room(self, actor: str) -> pandas.Series:
         """What was left until each deadline of an actuator or a sender, in microseconds, by time."""
-        import pandas
+        pandas = frames.pandas()
 
         rooms = [room for room in self.rooms if room.actor == actor]
         if not rooms and actor not in actors_of(self.graph, "actuator", "send"):

@@ -10,7 +10,7 @@ from fractions import Fraction
 from pathlib import Path
 from typing import Any, Mapping, Optional
 
-from ptides import wall_time
+from ptides import frames, wall_time
 from ptides.files import readable
 from ptides.program import Fault
 from ptides.recorded import Recorded
@@ -29,7 +29,7 @@ def name_of(data: Any) -> str:
 
 def parts_of(name: str, data: Any) -> dict[str, Any]:
     """The times, the values and, if there are any, the readings at which they were seen."""
-    import pandas
+    pandas = frames.pandas()
 
     if isinstance(data, pandas.Series):
         return {"time": data.index, "value": data}
@@ -47,7 +47,7 @@ def stamps_of(sensors: Mapping[str, Any]) -> list[Any]:
     """The first wall time of each sensor that has such times."""
     if all(map(is_file, sensors.values())):
         return []
-    import pandas
+    pandas = frames.pandas()
 
     indexes = [pandas.Index(parts_of(name, data)["time"]) for name, data in sensors.items() if not is_file(data)]
     return [index.min() for index in indexes if isinstance(index, pandas.DatetimeIndex) and len(index)]
@@ -90,7 +90,7 @@ def agreed(zero: Any, recorded: Optional[Fraction], stamps: list[Any]) -> Any:
 
 def whole(name: str, values: Any) -> Any:
     """The values as whole numbers."""
-    import pandas
+    pandas = frames.pandas()
 
     if values.isna().any():
         raise Fault(f"sensor {name}: {int(values.isna().sum())} values are missing: dropna() leaves them out")
@@ -113,7 +113,7 @@ def write(name: str, data: Any, path: Path, zero: Optional[Any]) -> None:
     if is_file(data):
         path.symlink_to(readable(data, f"sensor {name}"))
         return
-    import pandas
+    pandas = frames.pandas()
 
     parts = parts_of(name, data)
     times = numbers_of(parts["time"], zero, f"sensor {name}")

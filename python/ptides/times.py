@@ -9,7 +9,7 @@ from fractions import Fraction
 from numbers import Number
 from typing import Any, Iterable
 
-from ptides import wall_time
+from ptides import frames, wall_time
 from ptides.program import Fault
 
 
@@ -38,7 +38,7 @@ def span_of(stamp: Any, zero: Any, what: str) -> timedelta:
 
 def numbers_of(index: Any, zero: Any, what: str) -> Any:
     """The times of an index or a column in whole microseconds; parts of a microsecond are cut."""
-    import pandas
+    pandas = frames.pandas()
 
     index = pandas.Index(index)
     if isinstance(index, pandas.DatetimeIndex):
@@ -66,7 +66,7 @@ def stamp_of(zero: Any, what: str = "zero") -> Any:
     """A wall time as pandas has it; a number of seconds since the start of 1970, which only a file has, is in UTC."""
     if zero is None:
         return None
-    import pandas
+    pandas = frames.pandas()
 
     try:
         stamp = pandas.Timestamp(wall_time.text_of(zero) if isinstance(zero, Fraction) else zero)

@@ -108,6 +108,24 @@ class Plugin(Case):
         self.assertNotIn("Traceback", done.output)
         self.assertNotIn("Error", done.output)
 
+    def test_ends_of_lines(self) -> None:
+        """What can't be seen in a line is written out: a carriage return, a space, a line feed that isn't there, and what is no text."""
+        self.copy("governor")
+        table = self.folder / "governor/expected.csv"
+        stored = table.read_bytes()
+        ends = "only the ends of the lines differ: the program ends each with a line feed, and Windows with \\r and a line feed\n"
+        for data, says in ((stored.replace(b"\n", b"\r\n"), "expected.csv line 1\n  expected  actuator,time,step,value\\r\n  found     actuator,time,step,value\n" + ends),
+                           (stored.replace(b",1\n", b",1\r\n"), "expected.csv line 2, at 0.003500 s\n  expected  valve,3500,0,1\\r\n  found     valve,3500,0,1\n" + ends),
+                           (stored[:-1], "expected.csv line 3, at 0.004500 s\n  expected  valve,4500,0,0, without a line feed\n  found     valve,4500,0,0\n" + ends),
+                           (stored.replace(b",1\n", b",1 \n"), "  expected  valve,3500,0,1\\x20\n  found     valve,3500,0,1\n"),
+                           (stored.replace(b",1\n", b",1\xff\n"), "  expected  valve,3500,0,1\\udcff\n  found     valve,3500,0,1\n"),
+                           (stored[:stored.index(b"valve,45")], "expected.csv line 3, at 0.004500 s\n  expected  the end\n  found     valve,4500,0,0\n")):
+            table.write_bytes(data)
+            with self.subTest(data=data):
+                done = self.pytest("-k", "table")
+                self.assertIn(says, done.output)
+                self.assertNotIn("Error", done.output)
+
     def test_margins(self) -> None:
         """Without stored margins none may be below 0, unless misses are stored."""
         self.copy("missed", "governor")

@@ -261,6 +261,36 @@ class Plain(Case):
         done = subprocess.run(words, cwd=self.folder, env=around, capture_output=True, text=True, check=False)
         self.assertEqual((done.stdout, done.stderr), ("there is no program /nowhere/ptides\n", ""))
 
+    def test_without_pandas(self) -> None:
+        """A Python without pandas runs, writes a report with wall times, and says in one line what a Series needs."""
+        folder = copied(GOVERNOR, self.folder / "mine")
+        (folder / "speed.zero").write_text("2026-03-29T00:58:00Z\n")
+        text = ("import sys, ptides\nresult = ptides.run(sys.argv[1])\nprint(result.events, result.misses, result.log[0].time)\n"
+                "try:\n    result['valve']\nexcept ptides.Fault as fault:\n    print(fault)\n"
+                "print(ptides.report(sys.argv[1], sys.argv[1] + '/x.html') if len(sys.argv) > 2 else 0)")
+        around = {**os.environ, "PYTHONPATH": str(pythons.PACKAGE)}
+        words = [sys.executable, "-S", "-c", text, str(folder), *(["report"] if Path("/usr/share/javascript/dygraphs").exists() else [])]
+        done = subprocess.run(words, env=around, capture_output=True, text=True, check=False)
+        self.assertEqual(done.stderr, "")
+        self.assertIn(", doesn't have: pip install pandas; or Debian's python3-pandas, which a virtual environment has", done.stdout.splitlines()[1])
+        self.assertEqual(done.stdout.splitlines()[2:], ["0"])
+
+    def test_where_sensor_files_are(self) -> None:
+        """The package looks them up beside the graph, wherever Python was started, or in `folder`; commands from the current folder."""
+        other = copied(GOVERNOR, self.folder / "other")
+        (other / "speed.csv").write_text("time,seen,value\n1000,1000,150\n")
+        self.addCleanup(os.chdir, os.getcwd())
+        os.chdir(other)
+        near, here = [ptides.Event(3500, 0, 1), ptides.Event(4500, 0, 0)], [ptides.Event(2500, 0, 1)]
+        self.assertEqual(ptides.run(GOVERNOR / "graph.json").events["valve"], near)
+        self.assertEqual(ptides.run(GOVERNOR, folder=".").events["valve"], here)
+        self.assertEqual(ptides.run(json.loads((GOVERNOR / "graph.json").read_text())).events["valve"], here)
+        for command in ("run", "wave", "lint"):
+            done = program(command, GOVERNOR / "graph.json", *(["--csv", "-"] if command == "wave" else []), folder=other)
+            self.assertEqual(("2500" in done.output, "3500" in done.output), (command != "lint", False), command)
+            # Without the file here it isn't looked for beside the graph.
+            self.assertEqual(program(command, GOVERNOR / "graph.json", folder=self.folder).notes, "read fault: sensor speed\n")
+
     def test_documented_examples(self) -> None:
         """What the docstrings show."""
         import doctest

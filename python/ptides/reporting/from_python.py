@@ -13,9 +13,8 @@ from ptides.reporting.command import write_page
 from ptides.reporting.gather import gather
 from ptides.reporting.gathered import Asked
 from ptides.reporting.page import page
-from ptides.reporting.stamps import zero_of_timestamp
+from ptides.reporting.stamps import zero_as_shown
 from ptides.sensors import name_of
-from ptides.times import stamp_of
 
 PathLike = Union[str, os.PathLike]
 
@@ -50,5 +49,5 @@ def write_report(graph: Graph, file: PathLike, air: Any, clock: commands.Clock, 
     with placed(graph, folder, changes) as ready, network as path:
         asked = asked_of(graph, ready, air, path, clock, call)
         found = gather(asked)
-        write_page(file, page(found, title or asked.graph_name, zero_of_timestamp(stamp_of(ready.zero))), found)
+        write_page(file, page(found, title or asked.graph_name, zero_as_shown(ready.zero)), found)
     return found.status

@@ -13,6 +13,7 @@ from typing import Any, NamedTuple, Optional
 
 from ptides import wall_time
 from ptides.program import Fault
+from ptides.times import stamp_of
 
 START, MICROSECOND = datetime(1970, 1, 1, tzinfo=timezone.utc), timedelta(microseconds=1)
 DAY = 86_400 * 10**6
@@ -78,6 +79,9 @@ def zero_of(stamp: Fraction, zone: Optional[tzinfo]) -> Zero:
     return Zero(int(stamp * 10**6 // 1), zone or timezone.utc, wall_time.text_of(stamp))
 
 
-def zero_of_timestamp(stamp: Any) -> Optional[Zero]:
-    """The zero that pandas has."""
-    return None if stamp is None else Zero(stamp.value // 1000, stamp.tz, stamp.isoformat())
+def zero_as_shown(zero: Any) -> Optional[Zero]:
+    """The zero that a program stated or that its data has, or that a file has, as seconds."""
+    if zero is None or isinstance(zero, Fraction):
+        return zero if zero is None else zero_of(zero, None)
+    stamp = stamp_of(zero)
+    return Zero(stamp.value // 1000, stamp.tz, stamp.isoformat())
