@@ -30,6 +30,11 @@ class Miss(NamedTuple):
         """How far past the deadline, in microseconds."""
         return self.reading - self.deadline
 
+    @property
+    def line(self) -> str:
+        """The line of the program."""
+        return f"missed {self.actor} at {self.time}.{self.step}, reading {self.reading} past {self.deadline}"
+
     def says(self) -> str:
         """Its tag and how late it was."""
         return f"at {self.time}.{self.step}, {self.late} us past its deadline"

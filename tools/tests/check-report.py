@@ -210,7 +210,21 @@ class Report(Case):
         self.has(page, "10 of 11 scenarios gave what is stored", '<a href="#s0">a_lost</a></td><td><span class="failed">failed</span>',
                  "expected `warning,430000,0,2`, found `warning,430000,0,1`")
         self.assertEqual(page.count('<span class="ok">ok</span></summary>'), 10)
-        self.assertEqual(self.report("scenarios/normal", folder=folder)[0].status, 0)
+        parts = {name: re.search(f'<section id="{name}">(.*?)</section>', page, re.DOTALL)[1] for name in ("summary", "missed")}
+        self.has(parts["missed"], '<a href="#s8">slow_link</a></td><td>fuel_cut</td><td class="number">1</td><td class="number">1</td><td class="number">551</td>',
+                 '<a href="#s6">oil_late</a></td><td><code>late oil row 6, seen 645000 past 640000</code>', "<code>sensor pickup_b: time order at row 31</code>")
+        self.assertEqual(parts["missed"].count("<tr>"), 2 + 1 + 3)
+        done, page = self.report("scenarios/normal", folder=folder)
+        self.assertEqual(done.status, 0)
+        self.has(page, "Nothing was missed, late or refused.")
+        # Sensor files with different zeros are no reason for no page.
+        (folder / "scenarios/normal/oil.zero").write_text("2026-03-29T00:58:00Z\n")
+        (folder / "scenarios/normal/pickup_a.zero").write_text("2026-03-29T00:58:01Z\n")
+        done, page = self.report("scenarios/normal", folder=folder)
+        self.assertEqual(done.status, 0)
+        self.has(page, "pickup_a has the zero 2026-03-29T00:58:01Z, and oil has 2026-03-29T00:58:00Z")
+        done = companion("report", "scenarios/normal", "--zone", "Nowhere", folder=folder)
+        self.assertEqual((done.status, done.notes), (1, "ptides report: --zone: `Nowhere` is no time zone, as UTC, Europe/Berlin or +01:00\n"))
 
 
 @unittest.skipUnless(HAS_DYGRAPHS and not browser.missing(), browser.missing() or "libjs-dygraphs isn't there")

@@ -10,10 +10,11 @@ from typing import Any, Callable, Iterable, Mapping, Optional
 
 from ptides.companions import program_itself
 from ptides.program import Fault, Refused, find_program
+from ptides.reporting.elements import marked, section, table, tag
 from ptides.reporting.gather import add_graph, gather
 from ptides.reporting.gathered import Asked, Gathered
-from ptides.reporting.page import (MOST_DATA, Wall, data, deadlines_part, document, files_table, graph_part, made_by, marked, missed_part,
-                                network_part, section, table, tag, timing_part, trends_part, verdict)
+from ptides.reporting.page import (MISSED_BY, MOST_DATA, Wall, data, deadlines_part, document, files_table, graph_part, made_by, missed_by, missed_part,
+                                   network_part, timing_part, trends_part, verdict)
 from ptides.reporting.sources import versions
 from ptides.reporting.stamps import Zero
 from ptides.scenarios import Outcome, Scenario, run_here, scenarios_of, word_meanings
@@ -22,6 +23,7 @@ from ptides.scenarios import Outcome, Scenario, run_here, scenarios_of, word_mea
 ZeroOf = Callable[[Mapping[str, Any], Path], Optional[Zero]]
 # How long a command of a scenario may take, in seconds.
 LONGEST = 600.0
+NOTHING = "<p>Nothing was missed, late or refused.</p>"
 # So many scenarios that failed are open at first.
 MOST_OPEN = 3
 
@@ -36,6 +38,17 @@ class Tried:
     outcome: Outcome
     found: Optional[Gathered] = None
     refused: str = ""
+
+    def zero(self, zero_of: ZeroOf) -> Optional[Zero]:
+        """The zero of its times."""
+        return zero_of(self.found.graph, self.scenario.folder) if self.found else None
+
+    @property
+    def line(self) -> str:
+        """The line with which the program ended the run, if it did."""
+        if self.found:
+            return self.found.refused.line if self.found.refused else ""
+        return self.outcome.files.get("expected.notes", "").split("\n", 1)[0]
 
     @property
     def word(self) -> str:
@@ -98,8 +111,19 @@ def summary(all_of_them: list[Tried]) -> str:
         missed, least = len(found.result.misses) if found else None, min(rooms, default=None)
         numbers = (status, acted, marked(missed, missed), marked(least, (least or 0) < 0))
         rows.append((link, each.word, *numbers, each.outcome.message()))
-    head = ("scenario", "verdict", "status", "events of actuators", "missed", "least room us", "what differs")
+    head = ("scenario", "verdict", "status", "events of actuators", "missed", "least room, us", "what differs")
     return table(head, rows, (2, 3, 4, 5))
+
+
+def missed_and_late(all_of_them: list[Tried], zero_of: ZeroOf) -> str:
+    """What was missed in each scenario, and which were ended by a line of the program."""
+    missed_rows, ended_rows = [], []
+    for each in all_of_them:
+        link = f'<a href="#{each.key}">{escape(each.name)}</a>'
+        missed_rows += [(link, *record) for record in (missed_by(each.found, Wall(each.zero(zero_of))) if each.found else [])]
+        ended_rows += [(link, f"<code>{escape(each.line)}</code>")] if each.line else []
+    parts = table(("scenario", *MISSED_BY), missed_rows, (2, 3, 4)) if missed_rows else ""
+    return parts + (table(("scenario", "ended with"), ended_rows) if ended_rows else "")
 
 
 def differs(each: Tried) -> str:
@@ -118,11 +142,7 @@ def differs(each: Tried) -> str:
 def details(each: Tried, zero_of: ZeroOf, most: int, is_open: bool) -> str:
     """What can be opened of a scenario."""
     content, script = differs(each), ""
-    zero = None
-    try:
-        zero = zero_of(each.found.graph, each.scenario.folder) if each.found else None
-    except Fault as fault:
-        content += tag("p", escape(f"Times are seconds from 0: {fault}"))
+    zero = each.zero(zero_of)
     wall = Wall(zero)
     if each.refused:
         content += tag("pre", escape(each.refused))
@@ -155,7 +175,8 @@ def campaign_page(folders: list[str], title: str, zero_of: ZeroOf) -> tuple[str,
     most = MOST_DATA // max(len(all_of_them), 1)
     opened = {each.key for each in failed[:MOST_OPEN]}
     body = "".join(details(each, zero_of, most, each.key in opened) for each in all_of_them)
-    parts = section("summary", "All scenarios", summary(all_of_them)) + section("each", "Each", body) + of_the_graph(all_of_them)
+    parts = section("summary", "All scenarios", summary(all_of_them)) + section("missed", "Missed, late or refused", missed_and_late(all_of_them, zero_of) or NOTHING)
+    parts += section("each", "Each", body) + of_the_graph(all_of_them)
     parts += section("what", "What was run", tag("pre", escape("\n".join(["$ ptides bench " + " ".join(folders), "", *versions()]))) + made_by())
     return document(title, tag("main", head + parts)), int(bool(failed)), [each.found for each in all_of_them if each.found]
 

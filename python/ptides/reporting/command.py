@@ -132,6 +132,8 @@ def write_page(file: Union[str, os.PathLike], text: str, *runs: Gathered) -> Non
 def main() -> int:
     """Runs, and writes the page."""
     given = parser().parse_args()
+    # What is wrong with the words is said before a long run.
+    stated_zero(given.zero, given.zone, {"actors": []}, Path())
     if are_folders(given.words):
         title = given.title or " ".join(title_of(Path(word)) for word in given.words)
         text, status, runs = campaign_page(given.words, title, partial(stated_zero, given.zero, given.zone))

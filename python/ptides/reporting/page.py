@@ -8,9 +8,11 @@ from html import escape
 from importlib.resources import files as files_of
 from os import environ
 from pathlib import Path
-from typing import Any, Iterable, Optional
+from typing import Any, Optional
 
+from ptides.misses import Miss
 from ptides.program import Fault, version
+from ptides.reporting.elements import marked, section, table, tag
 from ptides.reporting.gathered import Gathered
 from ptides.reporting.series import Signal, fitted
 from ptides.reporting.stamps import Zero
@@ -24,38 +26,6 @@ MOST_LISTED = 500
 POLICY = "default-src 'none'; script-src 'unsafe-inline'; style-src 'unsafe-inline'; img-src data:"
 PARTS = [("trends", "Trends"), ("missed", "Missed"), ("deadlines", "Deadlines"), ("network", "Network"), ("clocks", "Readings"), ("graph", "Graph"),
          ("timing", "What may grow"), ("what", "What was run")]
-
-
-def tag(name: str, content: str, **attributes: Any) -> str:
-    """An element; its content is HTML."""
-    words = "".join(f' {key.rstrip("_").replace("_", "-")}="{escape(str(value))}"' for key, value in attributes.items())
-    return f"<{name}{words}>{content}</{name}>"
-
-
-def table(head: Iterable[str], records: Iterable[Iterable[Any]], numbers: Iterable[int] = (), body: str = "") -> str:
-    """A table; the columns of `numbers` are set to the right. A cell that begins with `<` is HTML."""
-    right = set(numbers)
-
-    def row(record: Iterable[Any], kind: str) -> str:
-        """A line of cells of this kind."""
-        cells = []
-        for index, cell in enumerate(record):
-            text = "" if cell is None else str(cell) if str(cell).startswith("<") else escape(f"{cell:,}" if isinstance(cell, int) else str(cell))
-            cells.append(f'<{kind} class="number">{text}</{kind}>' if index in right else f"<{kind}>{text}</{kind}>")
-        return "<tr>" + "".join(cells) + "</tr>"
-
-    rows = "".join(row(record, "td") for record in records)
-    return f'<div class="wide"><table{body}><thead>{row(head, "th")}</thead><tbody>{rows}</tbody></table></div>'
-
-
-def marked(number: Optional[int], is_bad: object) -> object:
-    """A number, in red if it is bad."""
-    return f'<span class="failed">{number:,}</span>' if is_bad else number
-
-
-def section(name: str, title: str, content: str) -> str:
-    """A part of the page."""
-    return tag("section", f"<h2>{escape(title)}</h2>{content}", id=name)
 
 
 def library() -> tuple[str, str, str]:
@@ -156,6 +126,19 @@ def trends_part(found: Gathered) -> str:
     return keys + notes + '<div class="toolbar" data-part="toolbar"></div><div data-part="trends"></div>'
 
 
+MISSED_BY = ("actor", "missed", "of events", "worst, us late", "first at")
+
+
+def missed_by(found: Gathered, wall: Wall) -> list[tuple[Any, ...]]:
+    """What each actor missed."""
+    by_actor: dict[str, list[Miss]] = {}
+    for miss in found.result.misses:
+        by_actor.setdefault(miss.actor, []).append(miss)
+    events = {signal.name: len(signal.times) for signal in found.signals if signal.group == "trends"}
+    return [(name, len(mine), events.get(name, 0), max(miss.late for miss in mine), wall.text(min(miss.time for miss in mine)))
+            for name, mine in by_actor.items()]
+
+
 def missed_part(found: Gathered, wall: Wall) -> str:
     """What was missed or late, as text."""
     if found.refused:
@@ -163,19 +146,13 @@ def missed_part(found: Gathered, wall: Wall) -> str:
     misses = found.result.misses
     if not misses:
         return ""
-    by_actor: dict[str, list[Any]] = {}
-    for miss in misses:
-        by_actor.setdefault(miss.actor, []).append(miss)
-    events = {signal.name: len(signal.times) for signal in found.signals if signal.group == "trends"}
-    summary = [(name, len(mine), events.get(name, 0), max(miss.late for miss in mine), wall.text(min(miss.time for miss in mine)))
-               for name, mine in by_actor.items()]
-    head = table(("actor", "missed", "of events", "the worst by us", "the first at"), summary, (1, 2, 3))
+    head = table(MISSED_BY, missed_by(found, wall), (1, 2, 3))
     search = ('<p class="noprint"><label>find <input type="search" data-part="search" size="30" placeholder="part of a line"></label> '
               '<output data-part="found"></output></p>')
     shown = f'<p class="soft">The first {MOST_LISTED} of {len(misses):,}; the search finds the others.</p>' if len(misses) > MOST_LISTED else ""
-    rows = [(f"missed {miss.actor} at {miss.time}.{miss.step}, reading {miss.reading} past {miss.deadline}", wall.text(miss.time), miss.late,
+    rows = [(miss.line, wall.text(miss.time), miss.late,
              f'<button type="button" data-time="{miss.time}" data-by="{miss.late}" data-actor="{miss.actor}">show</button>') for miss in misses[:MOST_LISTED]]
-    return head + search + shown + table(("line", "time", "late by us", ""), rows, (2,), ' data-part="misses"')
+    return head + search + shown + table(("line", "time", "us late", ""), rows, (2,), ' data-part="misses"')
 
 
 def deadlines_part(found: Gathered) -> str:
@@ -190,7 +167,7 @@ def deadlines_part(found: Gathered) -> str:
                          len(signal.missed)))
     if not rows:
         return ""
-    head = ("actor", "platform", "margin by check", "events", "least room", "median", "greatest", "missed")
+    head = ("actor", "platform", "margin by check", "events", "least room, us", "median", "greatest", "missed")
     text = '<p class="soft">The room is what was left until the deadline when it acted, in microseconds; the margin is what is left at the latest.</p>'
     return text + table(head, rows, range(2, 8)) + '<div data-part="rooms"></div>'
 
@@ -206,8 +183,8 @@ def network_part(found: Gathered) -> str:
                          values[-1], signal.limit, past))
     if not rows:
         return ""
-    head = ("from", "to", "messages", "recorded", "least us", "median", "greatest", "delay of the link", "past it")
-    lags = table(("platform", "its clock is behind by us"), found.lags.items(), (1,)) if found.lags else ""
+    head = ("from", "to", "messages", "recorded", "least, us", "median", "greatest", "delay of the link", "past it")
+    lags = table(("platform", "its clock is behind, us"), found.lags.items(), (1,)) if found.lags else ""
     return table(head, rows, range(2, 9)) + lags + '<div data-part="network"></div>'
 
 
