@@ -354,7 +354,7 @@ class Use(Case):
         self.assertEqual(self.browser.run("const {clock} = report.runs.get('run'); return [3499, 3500].map(time => clock.text(time))"),
                          ["2026-03-29 01:59:59.999999", "2026-03-29 03:00:00.000000"])
         labels = self.browser.run("return report.runs.get('run').clock.ticks(2000, 4500, 1100).map(tick => tick.label)")
-        self.assertEqual(labels[1:4], ["01:59:59.9990", "01:59:59.9995", "03:00:00.0000"])
+        self.assertEqual(labels[:4], ["", "01:59:59.9990", "01:59:59.9995", "03:00:00.0000"])
 
     def test_a_missed_entry(self) -> None:
         """It is found by its text, and its button goes there."""

@@ -87,7 +87,7 @@ def title_of(path: Path) -> str:
     return "/".join(Path(os.path.abspath(path)).parts[-2:]).lstrip("/")
 
 
-def gathered(asked: Asked) -> Gathered:
+def collected(asked: Asked) -> Gathered:
     """Runs, and collects. Of a sensor file that can't be read its path is said too."""
     if asked.air is not None:
         readable(asked.air, "air")
@@ -141,7 +141,7 @@ def main() -> int:
         return status
     asked = asked_of(given.words, given.clock)
     with once_read(asked) as ready:
-        found = gathered(ready)
+        found = collected(ready)
         text = page(found, given.title or title_of(asked.graph), stated_zero(given.zero, given.zone, found.graph, Path.cwd()))
         write_page(given.output or f"{asked.graph.stem or 'graph'}.html", text, found)
     if found.refused:

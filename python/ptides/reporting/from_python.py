@@ -34,7 +34,7 @@ def call_of(graph: Graph, file: PathLike, options: Mapping[str, Any]) -> str:
 
 def asked_of(graph: Graph, ready: Placed, air: Any, air_path: Optional[str], clock: commands.Clock, call: str) -> Asked:
     """What was asked for, by the names of the user."""
-    name = str(ready.origin) if ready.origin else name_of(graph)
+    name = str(ready.origin) if ready.origin else f"graph ({name_of(graph)})"
     air_file = None if air_path is None else Path(air_path)
     return Asked(ready.folder / ready.word, air_file, clock, ready.folder, name, "" if air is None else name_of(air), ready.rows_names, call)
 

@@ -146,7 +146,11 @@ class Clock {
     const step = STEPS.find(each => (last - first) / each <= most) || STEPS[STEPS.length - 1];
     const shift = this.zero === null ? 0 : this.shift(first) % DAY;
     const ticks = [];
-    for (let time = Math.ceil((first + shift) / step) * step - shift; time <= last; time += step) ticks.push({v: time, label: this.label(time, step)});
+    // A label below the corner would cover the least number of the other axis.
+    const corner = first + (last - first) * 20 / pixels;
+    for (let time = Math.ceil((first + shift) / step) * step - shift; time <= last; time += step) {
+      ticks.push({v: time, label: time < corner ? "" : this.label(time, step)});
+    }
     return ticks;
   }
 }
