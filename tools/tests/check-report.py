@@ -173,6 +173,17 @@ class Report(Case):
         self.assertEqual((done.status, page), (1, ""))
         self.assertIn("apt-get install libjs-dygraphs", done.notes)
 
+    def test_zone(self) -> None:
+        """The clock on the wall is of the zone of the zero, stated or kept beside the rows, unless another zone is named."""
+        shift = copied(EXAMPLES / "shift", self.folder / "shift")
+        for words, offsets, until in ((["--zero", "2026-03-28T22:00:00+01:00"], [1], "05:00:00"), ([], [1], "05:00:00"), (["--zone", "UTC"], [0], "04:00:00"),
+                                      (["--zone", "Europe/Berlin"], [1, 2], "06:00:00"), (["--zero", "2026-03-28T21:00:00Z"], [0], "04:00:00")):
+            with self.subTest(words=words):
+                done, page = self.report("graph.json", *words, folder=shift)
+                self.assertEqual((done.status, done.notes), (0, ""))
+                self.assertEqual([offset // 3_600_000_000 for _, offset in coded(page)["zero"]["offsets"]], offsets)
+                self.has(page, f"2026-03-29 {until}.000000 (25,200,000,000 us)")
+
     def test_size(self) -> None:
         """200,000 firings give at most 5 MB with all events; where there are more, outlines that keep the least and the greatest."""
         folder = self.long_run(50_000, 500)

@@ -40,7 +40,7 @@ def parser() -> companion.Parser:
     found.add_argument("--clock", default="paced", metavar="CLOCK", help="as of ptides run: paced, step:START:STEP or machine")
     found.add_argument("--zero", metavar="STAMP", help="the wall time of 0, as 2026-03-29T00:58:00Z (default: what `ptides rows` keeps beside "
                        "the sensor files)")
-    found.add_argument("--zone", metavar="ZONE", help="the zone of the clock on the wall, as UTC, Europe/Berlin or +01:00 (default: UTC)")
+    found.add_argument("--zone", metavar="ZONE", help="the zone of the clock on the wall, as UTC, Europe/Berlin or +01:00 (default: that of the zero)")
     found.add_argument("--title", metavar="TEXT", help="the title of the page (default: the path of the graph, with its folder)")
     return found
 

@@ -8,7 +8,6 @@
 from __future__ import annotations
 
 from datetime import datetime, timedelta, timezone, tzinfo
-from fractions import Fraction
 from typing import Any, NamedTuple, Optional
 
 from ptides import wall_time
@@ -74,14 +73,16 @@ class Zero(NamedTuple):
         return shown.strftime("%Y-%m-%d %H:%M:%S") + f".{shown.microsecond:06d}"
 
 
-def zero_of(stamp: Fraction, zone: Optional[tzinfo]) -> Zero:
-    """The zero that is the number of seconds since the start of 1970."""
-    return Zero(int(stamp * 10**6 // 1), zone or timezone.utc, wall_time.text_of(stamp))
+def zero_of(stamp: wall_time.Stamp, zone: Optional[tzinfo]) -> Zero:
+    """The zero that is a stamp; the clock on the wall is of the zone, or else of that of the stamp."""
+    return Zero(int(stamp * 10**6 // 1), zone or stamp.zone, wall_time.text_of(stamp))
 
 
 def zero_as_shown(zero: Any) -> Optional[Zero]:
-    """The zero that a program stated or that its data has, or that a file has, as seconds."""
-    if zero is None or isinstance(zero, Fraction):
-        return zero if zero is None else zero_of(zero, None)
+    """The zero that a program stated or that its data has, or the stamp that a file has."""
+    if zero is None:
+        return None
+    if isinstance(zero, wall_time.Stamp):
+        return zero_of(zero, None)
     stamp = stamp_of(zero)
     return Zero(stamp.value // 1000, stamp.tz, stamp.isoformat())
