@@ -38,9 +38,11 @@ class Horizons(Case):
         # 86,400 rows in parts of 13,333 at most; each part is run.
         self.assertIn("or take the recording in 7 parts of 3 h 25 min: `rows` with a --zero for each, `--from 0 --to 12342999999`, and 12342999999 as `until` "
                       "(docs/RECORDINGS.md, Long recordings)\n", done.output)
-        wave = companion("wave", "graph.json", "--svg", "-", folder=self.folder)
-        self.assertEqual((wave.status, wave.output, wave.notes.splitlines()[0]), (6, "", "long tank"))
-        self.assertEqual([f"  = help: {line[13:]}" for line in wave.notes.splitlines()[1:]], [line for line in done.output.splitlines() if "= help" in line])
+        for name, words in (("wave", ["--svg", "-"]), ("report", ["-o", "-"])):
+            other = companion(name, "graph.json", *words, folder=self.folder)
+            self.assertEqual((other.status, other.output, other.notes.splitlines()[0]), (6, "", "long tank"))
+            self.assertEqual([line.replace(f"ptides {name}: ", "  = help: ") for line in other.notes.splitlines()[1:]],
+                             [line for line in done.output.splitlines() if "= help" in line])
         for until, status in ((13_332_999_999, 0), (13_333_000_000, 6)):
             (self.folder / "graph.json").write_text(json.dumps({**graph, "until": until}))
             self.assertEqual(ptides("run", "graph.json", folder=self.folder).status, status)

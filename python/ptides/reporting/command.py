@@ -8,7 +8,7 @@ from functools import partial
 from pathlib import Path
 from typing import Any, Callable, Iterator, Mapping, Optional, Union
 
-from ptides import companion, wall_time
+from ptides import companion, horizon, wall_time
 from ptides.files import kept, readable
 from ptides.graphs import is_lasting
 from ptides.program import Fault, Refused
@@ -88,19 +88,30 @@ def title_of(path: Path) -> str:
 
 
 def collected(asked: Asked) -> Gathered:
-    """Runs, and collects. Of a sensor file that can't be read its path is said too."""
+    """Runs, and collects. Of a run that is too long it is said what fits, and of a sensor file that can't be read its path."""
     if asked.air is not None:
         readable(asked.air, "air")
     try:
         return gather(asked)
     except Refused as refused:
-        raise unread(asked, refused) if refused.line.startswith("read fault: sensor ") else refused
+        raise explained(asked, refused) from None
+
+
+def explained(asked: Asked, refused: Refused) -> Fault:
+    """The refusal, with what helps against it."""
+    if refused.status == 6:
+        return horizon.with_advice(refused, graph_of(asked), "report")
+    return unread(asked, refused) if refused.line.startswith("read fault: sensor ") else refused
+
+
+def graph_of(asked: Asked) -> dict[str, Any]:
+    """The graph that is asked for."""
+    return json.loads(companion.read(asked.graph))
 
 
 def unread(asked: Asked, refused: Refused) -> Fault:
     """The fault that a sensor file can't be read."""
-    name = refused.line.split(" ")[3]
-    graph = json.loads(companion.read(asked.graph))
+    name, graph = refused.line.split(" ")[3], graph_of(asked)
     file = next(actor["file"] for actor in graph["actors"] if actor["name"] == name)
     try:
         readable(asked.folder / file, f"sensor {name}")
