@@ -27,6 +27,7 @@ STAMP = re.compile(
 EPOCH = date(1970, 1, 1)
 # The first and the last second that can be written in each zone: one day within the years 1 to 9999.
 LEAST, MOST = ((day - EPOCH).days * 86_400 for day in (date(1, 1, 2), date(9999, 12, 31)))
+NO_DATE = "a time of the run is before the year 1 or after the year 9999"
 # The first stamp that is taken for wall time where a recording may count from its own start instead: in 1973.
 FIRST_WALL_TIME = 10**8
 
@@ -155,8 +156,11 @@ def text_of(stamp: Fraction) -> str:
     """A stamp as text, in its zone or else in UTC, with as many digits as it has, nine at most."""
     whole = stamp.numerator // stamp.denominator
     digits = f"{int((stamp - whole) * 10**9):09}".rstrip("0")
-    moment = datetime(1970, 1, 1, tzinfo=timezone.utc) + timedelta(seconds=whole)
-    local = moment.astimezone(stamp.zone) if isinstance(stamp, Stamp) else moment
+    try:
+        moment = datetime(1970, 1, 1, tzinfo=timezone.utc) + timedelta(seconds=whole)
+        local = moment.astimezone(stamp.zone) if isinstance(stamp, Stamp) else moment
+    except OverflowError as fault:
+        raise Fault(NO_DATE) from fault
     # Before they had zones, clocks were ahead by some seconds too, which no stamp says.
     text = (local if local.utcoffset() % timedelta(minutes=1) == timedelta(0) else moment).isoformat()
     return text[:19] + (f".{digits}" if digits else "") + text[19:].replace("+00:00", "Z")

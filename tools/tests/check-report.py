@@ -154,7 +154,7 @@ class Report(Case):
                             (("graph.json", "--zero", "tomorrow"), "--zero: `tomorrow` is no stamp"), (("a", "b"), "run takes one graph"),
                             (("graph.json", "--zone", "Nowhere"), "--zone: `Nowhere` is no time zone"), (("",), "cannot read .: Is a directory"),
                             (("graph.json", "--clock", "sundial"), "START from 0 and STEP from 1, to 10^15; not `--clock sundial`"),
-                            (("graph.json", "--zero", "9999-12-31T23:59:59.999999Z"), "a time of the run is before the year 1 or after the year 9999"),
+                            (("graph.json", "--zero", "9999-12-31T23:59:59.999999Z"), "--zero: `9999-12-31T23:59:59.999999Z` is no stamp"),
                             (("graph.json", "-o", "/nowhere/x.html"), "cannot write /nowhere/x.html")):
             done = companion("report", *words, folder=EXAMPLES / "basic")
             self.assertEqual((done.status, done.output, done.notes.count("\n")), (1, "", 1))
@@ -183,6 +183,9 @@ class Report(Case):
                 self.assertEqual((done.status, done.notes), (0, ""))
                 self.assertEqual([offset // 3_600_000_000 for _, offset in coded(page)["zero"]["offsets"]], offsets)
                 self.has(page, f"2026-03-29 {until}.000000 (25,200,000,000 us)")
+        (shift / "graph.json").write_text(json.dumps({**json.loads((shift / "graph.json").read_text()), "until": 172_800_000_000}))
+        self.assertEqual(self.report("graph.json", "--zero", "9999-12-30T23:59:59.5Z", folder=shift)[0],
+                         (1, "", "ptides report: with the zero 9999-12-30T23:59:59.5Z a time of the run is before the year 1 or after the year 9999\n"))
 
     def test_size(self) -> None:
         """200,000 firings give at most 5 MB with all events; where there are more, outlines that keep the least and the greatest."""

@@ -49,6 +49,15 @@ class WaveTimes(WaveCase):
             with self.subTest(words=words):
                 self.assertEqual(self.wave("graph.json", "--svg", "-", *words, folder=folder), (1, "", f"ptides wave: {line}\n"))
 
+    def test_times_without_a_date(self) -> None:
+        """A run that goes on after the year 9999 is refused in a line, where it has to have wall times."""
+        folder, zero = self.long_run(2, start=10**11), ("--zero", "9999-12-30T23:59:59Z")
+        for words in (["--svg", "-"], ["--csv", "-", "--wall"]):
+            with self.subTest(words=words):
+                self.assertEqual(self.wave("graph.json", *words, *zero, folder=folder),
+                                 (1, "", "ptides wave: a time of the run is before the year 1 or after the year 9999\n"))
+        self.assertEqual(self.wave("graph.json", "--csv", "-", *zero, folder=folder).status, 0)
+
     def test_views_begin_with_the_first_change(self) -> None:
         """A run whose first event is late is shown from that event on, in the timeline and in GTKWave."""
         folder = self.long_run(20, start=100_000_000)

@@ -48,7 +48,7 @@ class Zero(NamedTuple):
 
     def beyond(self) -> Fault:
         """The fault that a time has no date."""
-        return Fault(f"with the zero {self.text} a time of the run is before the year 1 or after the year 9999")
+        return Fault(f"with the zero {self.text} {wall_time.NO_DATE}")
 
     def offsets(self, first: int, last: int) -> list[list[int]]:
         """From which time on which offset holds, between these times: a clock may be put forward or back."""
