@@ -4,3 +4,4 @@ pub mod Rows
 pub mod Shapes
 pub mod Steps
 pub mod Numbers
+pub mod PresentAnswers

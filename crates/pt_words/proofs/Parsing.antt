@@ -8,9 +8,9 @@ use Rattle.clap.specs.Faults.{check_fault, defaults_fault, entered_fault, fault_
 use Rattle.clap.specs.Kinds.{Kinds, or_else}
 use Rattle.pt_words.specs.App.{words_app}
 use Rattle.clap.specs.Lexer.{name_and_value}
-use Rattle.pt_words.specs.Said.{Place, Said, among, clock_due, no_words, option_said, said, with_clock, with_graph, with_workers, workers_due}
+use Rattle.pt_words.specs.Said.{Place, Said, among, claims_due, clock_due, no_words, option_said, said, with_claims, with_clock, with_graph, with_workers, workers_due}
 use Rattle.pt_words.specs.Short.{has_short}
-use Rattle.pt_words.proofs.Agreeing.{Agrees, amid, clock_plain, last_rows, rest_fault, said_in, said_plain, short_plain, sim, workers_plain}
+use Rattle.pt_words.proofs.Agreeing.{Agrees, amid, claims_plain, clock_plain, last_rows, rest_fault, said_in, said_plain, short_plain, sim, workers_plain}
 use Rattle.pt_words.proofs.Shapes.{view, empty, dash, plain, ending, long, short}
 use Rattle.pt_words.proofs.Steps.{Text, app, at}
 
@@ -68,24 +68,25 @@ none_else : {X : Type 0} (b : Bool) (x : X) → cond b x x ≡ x
 none_else true x = refl
 none_else false x = refl
 
-option_none : (name : Text) (v : Option Text) (next : Place → Option Said) → next among ≡ None → next workers_due ≡ None → next clock_due ≡ None → option_said name v next ≡ None
-option_none name None next a w k = simp (a, w, k, none_else)
-option_none name (Some value) next a w k = simp (a, none_else)
+option_none : (name : Text) (v : Option Text) (next : Place → Option Said) → next among ≡ None → next workers_due ≡ None → next clock_due ≡ None → next claims_due ≡ None → option_said name v next ≡ None
+option_none name None next a w k m = simp (a, w, k, m, none_else)
+option_none name (Some value) next a w k m = simp (a, none_else)
 
 -- words of which one is short, before `--`, are refused
-short_said : (ws : List Text) → has_short ws ≡ true → (said among ws ≡ None) × (said workers_due ws ≡ None) × (said clock_due ws ≡ None)
+short_said : (ws : List Text) → has_short ws ≡ true → (said among ws ≡ None) × (said workers_due ws ≡ None) × (said clock_due ws ≡ None) × (said claims_due ws ≡ None)
 short_said [] h = absurd cc
 short_said (w ∷ ws) h = elim (view w) [
-  | empty q ↦ rw q (let later = short_said ws (rw q at h) in (ap (with_graph []) later.0, ap (with_workers []) later.0, ap (with_clock []) later.0))
-  | dash q ↦ rw q (let later = short_said ws (rw q at h) in (ap (with_graph (45 ∷ [])) later.0, ap (with_workers (45 ∷ [])) later.0, ap (with_clock (45 ∷ [])) later.0))
+  | empty q ↦ rw q (let later = short_said ws (rw q at h) in (ap (with_graph []) later.0, ap (with_workers []) later.0, ap (with_clock []) later.0, ap (with_claims []) later.0))
+  | dash q ↦ rw q (let later = short_said ws (rw q at h) in (ap (with_graph (45 ∷ [])) later.0, ap (with_workers (45 ∷ [])) later.0, ap (with_clock (45 ∷ [])) later.0, ap (with_claims (45 ∷ [])) later.0))
   | plain x xs q k ↦ rw q (let later = short_said ws (rw (q, short_plain x xs ws k) at h) in (
     said_plain x xs ws k ∙ ap (with_graph (x ∷ xs)) later.0,
     workers_plain x xs ws k ∙ ap (with_workers (x ∷ xs)) later.0,
     clock_plain x xs ws k ∙ ap (with_clock (x ∷ xs)) later.0,
+    claims_plain x xs ws k ∙ ap (with_claims (x ∷ xs)) later.0,
   ))
   | ending q ↦ let bad = rw q at h in absurd cc
-  | long z zs q ↦ rw q (let later = short_said ws (rw q at h) in (option_none (name_and_value (z ∷ zs)).0 (name_and_value (z ∷ zs)).1 (λ next. said next ws) later.0 later.1 later.2, refl, refl))
-  | short y ys q k ↦ rw q (rw k refl, refl, refl)
+  | long z zs q ↦ rw q (let later = short_said ws (rw q at h) in (option_none (name_and_value (z ∷ zs)).0 (name_and_value (z ∷ zs)).1 (λ next. said next ws) later.0 later.1 later.2 later.3, refl, refl, refl))
+  | short y ys q k ↦ rw q (rw k refl, refl, refl, refl)
 ]
 
 pub short_refused : (ws : List Text) → has_short ws ≡ true → said among ws ≡ None

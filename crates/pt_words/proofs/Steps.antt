@@ -41,6 +41,9 @@ whole_workers rows w = refl
 pub whole_clock : (rows : List Row) (w : Text) → IsWhole rows (Some (codes "clock", w ∷ []))
 whole_clock rows w = refl
 
+pub whole_claims : (rows : List Row) (w : Text) → IsWhole rows (Some (codes "claims", w ∷ []))
+whole_claims rows w = refl
+
 pub due_workers : (rows : List Row) → settle_fault app.top.rules false (held rows (Some (codes "workers", []))) ≡ kind.InvalidValue ∷ []
 due_workers rows = refl
 
@@ -250,27 +253,88 @@ unfolding walked
 clock_step rows p true z zs name e g n0 a = rw (e, g, n0, a) refl
 clock_step rows p false z zs name e g n0 a = rw (e, g, n0, a) refl
 
+-- where the value of `--claims` is due
+pub claims_due_step : (rows : List Row) (x : ℕ) (xs : Text) → (x == 45) ≡ false
+    → walked app.top.rules [] (at rows (Some (codes "claims", [])) (option (codes "claims")) false) (x ∷ xs) ≡ at rows (Some (codes "claims", (x ∷ xs) ∷ [])) idle false
+unfolding walked
+claims_due_step rows x xs h = rw (h, h) refl
+
+pub claims_due_fault : (rows : List Row) (x : ℕ) (xs : Text) → (x == 45) ≡ false
+    → turn_fault app.top [] (at rows (Some (codes "claims", [])) (option (codes "claims")) false) (x ∷ xs) ≡ []
+claims_due_fault rows x xs h = rw (h, h) refl
+
+pub claims_due_step_empty : (rows : List Row) → walked app.top.rules [] (at rows (Some (codes "claims", [])) (option (codes "claims")) false) [] ≡ at rows (Some (codes "claims", [] ∷ [])) idle false
+unfolding walked
+claims_due_step_empty rows = refl
+
+pub claims_due_fault_empty : (rows : List Row) → turn_fault app.top [] (at rows (Some (codes "claims", [])) (option (codes "claims")) false) [] ≡ []
+claims_due_fault_empty rows = refl
+
+pub claims_due_step_dash : (rows : List Row) → walked app.top.rules [] (at rows (Some (codes "claims", [])) (option (codes "claims")) false) (45 ∷ []) ≡ at rows (Some (codes "claims", (45 ∷ []) ∷ [])) idle false
+unfolding walked
+claims_due_step_dash rows = refl
+
+pub claims_due_fault_dash : (rows : List Row) → turn_fault app.top [] (at rows (Some (codes "claims", [])) (option (codes "claims")) false) (45 ∷ []) ≡ []
+claims_due_fault_dash rows = refl
+
+pub claims_due_step_end : (rows : List Row) → walked app.top.rules [] (at rows (Some (codes "claims", [])) (option (codes "claims")) false) (45 ∷ 45 ∷ []) ≡ at rows (Some (codes "claims", [])) (option (codes "claims")) true
+unfolding walked
+claims_due_step_end rows = refl
+
+pub claims_due_fault_end : (rows : List Row) → turn_fault app.top [] (at rows (Some (codes "claims", [])) (option (codes "claims")) false) (45 ∷ 45 ∷ []) ≡ []
+claims_due_fault_end rows = refl
+
+pub claims_ended_fault : (rows : List Row) (w : Text) → turn_fault app.top [] (at rows (Some (codes "claims", [])) (option (codes "claims")) true) w ≡ kind.InvalidValue ∷ []
+claims_ended_fault rows w = refl
+
+pub claims_due_fault_long : (rows : List Row) (z : ℕ) (zs : Text) → turn_fault app.top [] (at rows (Some (codes "claims", [])) (option (codes "claims")) false) (45 ∷ 45 ∷ z ∷ zs) ≡ [] → ⊥
+claims_due_fault_long rows z zs = or_else_none _ _ (long_stuck (arg_by_long app.top.rules (name_and_value (z ∷ zs)).0) (name_and_value (z ∷ zs)).1 (held rows (Some (codes "claims", []))) kind.InvalidValue refl)
+
+-- `--claims=VALUE`
+pub claims_value_fault : (rows : List Row) (p : Option (Text × List Text)) (b : Bool) (z : ℕ) (zs name v : Text) → IsWhole rows p → (name_and_value (z ∷ zs)).0 ≡ name → (name_and_value (z ∷ zs)).1 ≡ Some v
+    → bytes_eq (codes "workers") name ≡ false → bytes_eq (codes "clock") name ≡ false → bytes_eq (codes "claims") name ≡ true → turn_fault app.top [] (at rows p (resting b) false) (45 ∷ 45 ∷ z ∷ zs) ≡ []
+claims_value_fault rows p b z zs name v f e g n0 n1 a = long_turn rows p b z zs ∙ rw (e, g, n0, n1, a, f) refl
+
+pub claims_value_step : (rows : List Row) (p : Option (Text × List Text)) (b : Bool) (z : ℕ) (zs name v : Text) → (name_and_value (z ∷ zs)).0 ≡ name → (name_and_value (z ∷ zs)).1 ≡ Some v
+    → bytes_eq (codes "workers") name ≡ false → bytes_eq (codes "clock") name ≡ false → bytes_eq (codes "claims") name ≡ true
+    → walked app.top.rules [] (at rows p (resting b) false) (45 ∷ 45 ∷ z ∷ zs) ≡ at (with_values (codes "claims") text_reading CommandLine (v ∷ []) (settled_rows app.top.rules p rows)) None idle false
+unfolding walked
+claims_value_step rows p true z zs name v e g n0 n1 a = rw (e, g, n0, n1, a) refl
+claims_value_step rows p false z zs name v e g n0 n1 a = rw (e, g, n0, n1, a) refl
+
+-- `--claims`
+pub claims_fault : (rows : List Row) (p : Option (Text × List Text)) (b : Bool) (z : ℕ) (zs name : Text) → IsWhole rows p → (name_and_value (z ∷ zs)).0 ≡ name → (name_and_value (z ∷ zs)).1 ≡ None
+    → bytes_eq (codes "workers") name ≡ false → bytes_eq (codes "clock") name ≡ false → bytes_eq (codes "claims") name ≡ true → turn_fault app.top [] (at rows p (resting b) false) (45 ∷ 45 ∷ z ∷ zs) ≡ []
+claims_fault rows p b z zs name f e g n0 n1 a = long_turn rows p b z zs ∙ rw (e, g, n0, n1, a, f) refl
+
+pub claims_step : (rows : List Row) (p : Option (Text × List Text)) (b : Bool) (z : ℕ) (zs name : Text) → (name_and_value (z ∷ zs)).0 ≡ name → (name_and_value (z ∷ zs)).1 ≡ None
+    → bytes_eq (codes "workers") name ≡ false → bytes_eq (codes "clock") name ≡ false → bytes_eq (codes "claims") name ≡ true
+    → walked app.top.rules [] (at rows p (resting b) false) (45 ∷ 45 ∷ z ∷ zs) ≡ at (settled_rows app.top.rules p rows) (Some (codes "claims", [])) (option (codes "claims")) false
+unfolding walked
+claims_step rows p true z zs name e g n0 n1 a = rw (e, g, n0, n1, a) refl
+claims_step rows p false z zs name e g n0 n1 a = rw (e, g, n0, n1, a) refl
+
 -- `--log`
 pub log_fault : (rows : List Row) (p : Option (Text × List Text)) (b : Bool) (z : ℕ) (zs name : Text) → IsWhole rows p → (name_and_value (z ∷ zs)).0 ≡ name → (name_and_value (z ∷ zs)).1 ≡ None
-    → bytes_eq (codes "workers") name ≡ false → bytes_eq (codes "clock") name ≡ false → bytes_eq (codes "log") name ≡ true
+    → bytes_eq (codes "workers") name ≡ false → bytes_eq (codes "clock") name ≡ false → bytes_eq (codes "claims") name ≡ false → bytes_eq (codes "log") name ≡ true
     → turn_fault app.top [] (at rows p (resting b) false) (45 ∷ 45 ∷ z ∷ zs) ≡ []
-log_fault rows p b z zs name f e g n0 n1 a = long_turn rows p b z zs ∙ rw (e, g, n0, n1, a, f) refl
+log_fault rows p b z zs name f e g n0 n1 n2 a = long_turn rows p b z zs ∙ rw (e, g, n0, n1, n2, a, f) refl
 
 pub log_step : (rows : List Row) (p : Option (Text × List Text)) (b : Bool) (z : ℕ) (zs name : Text) → (name_and_value (z ∷ zs)).0 ≡ name → (name_and_value (z ∷ zs)).1 ≡ None
-    → bytes_eq (codes "workers") name ≡ false → bytes_eq (codes "clock") name ≡ false → bytes_eq (codes "log") name ≡ true
+    → bytes_eq (codes "workers") name ≡ false → bytes_eq (codes "clock") name ≡ false → bytes_eq (codes "claims") name ≡ false → bytes_eq (codes "log") name ≡ true
     → walked app.top.rules [] (at rows p (resting b) false) (45 ∷ 45 ∷ z ∷ zs) ≡ at (with_values (codes "log") text_reading CommandLine ([] ∷ []) (settled_rows app.top.rules p rows)) None idle false
 unfolding walked
-log_step rows p true z zs name e g n0 n1 a = rw (e, g, n0, n1, a) refl
-log_step rows p false z zs name e g n0 n1 a = rw (e, g, n0, n1, a) refl
+log_step rows p true z zs name e g n0 n1 n2 a = rw (e, g, n0, n1, n2, a) refl
+log_step rows p false z zs name e g n0 n1 n2 a = rw (e, g, n0, n1, n2, a) refl
 
 -- `--log=VALUE` is refused
 pub log_value_fault : (rows : List Row) (p : Option (Text × List Text)) (b : Bool) (z : ℕ) (zs name v : Text) → (name_and_value (z ∷ zs)).0 ≡ name → (name_and_value (z ∷ zs)).1 ≡ Some v
-    → bytes_eq (codes "workers") name ≡ false → bytes_eq (codes "clock") name ≡ false → bytes_eq (codes "log") name ≡ true
+    → bytes_eq (codes "workers") name ≡ false → bytes_eq (codes "clock") name ≡ false → bytes_eq (codes "claims") name ≡ false → bytes_eq (codes "log") name ≡ true
     → turn_fault app.top [] (at rows p (resting b) false) (45 ∷ 45 ∷ z ∷ zs) ≡ kind.TooManyValues ∷ []
-log_value_fault rows p b z zs name v e g n0 n1 a = long_turn rows p b z zs ∙ rw (e, g, n0, n1, a) refl
+log_value_fault rows p b z zs name v e g n0 n1 n2 a = long_turn rows p b z zs ∙ rw (e, g, n0, n1, n2, a) refl
 
 -- another name is refused
 pub unknown_fault : (rows : List Row) (p : Option (Text × List Text)) (b : Bool) (z : ℕ) (zs name : Text) → (name_and_value (z ∷ zs)).0 ≡ name
-    → bytes_eq (codes "workers") name ≡ false → bytes_eq (codes "clock") name ≡ false → bytes_eq (codes "log") name ≡ false
+    → bytes_eq (codes "workers") name ≡ false → bytes_eq (codes "clock") name ≡ false → bytes_eq (codes "claims") name ≡ false → bytes_eq (codes "log") name ≡ false
     → turn_fault app.top [] (at rows p (resting b) false) (45 ∷ 45 ∷ z ∷ zs) ≡ kind.UnknownArgument ∷ []
-unknown_fault rows p b z zs name e n0 n1 n2 = long_turn rows p b z zs ∙ rw (e, n0, n1, n2) refl
+unknown_fault rows p b z zs name e n0 n1 n2 n3 = long_turn rows p b z zs ∙ rw (e, n0, n1, n2, n3) refl

@@ -23,4 +23,4 @@ flag_rule name = record (option_rule name) { range = Some (record { start_inclus
 
 -- with all arguments
 abbrev pub words_app : App
-words_app = with_rule (with_rule (with_rule (with_rule bare_app (option_rule (codes "workers"))) (option_rule (codes "clock"))) (flag_rule (codes "log"))) graph_rule
+words_app = with_rule (with_rule (with_rule (with_rule (with_rule bare_app (option_rule (codes "workers"))) (option_rule (codes "clock"))) (option_rule (codes "claims"))) (flag_rule (codes "log"))) graph_rule

@@ -12,15 +12,30 @@ use Rattle.pt_words.specs.declared.words.Verb.{Verb}
 use Rattle.pt_words.specs.declared.words.Verb.TheVariants.{Run, Check, Meaning, Make, Migrate, Slacks, Audit, Replay}
 use Rattle.pt_words.specs.Said.{Said, among, said}
 
--- what a command line asks for: a command on the graph file with this name, a run of an input made from a number, the graph file
--- with this name as a file of version 2, an audit of a log of that graph, or a replay of that graph with the lags and transits that
--- the file `air` says
+-- a graph file, and the number of claims that a platform may make
+pub record GraphFile : Type 0 where
+  pub name : List ℕ
+  pub claims : ℕ
+
+-- the number of claims unless the words state another, and the greatest that they may state
+abbrev pub usual_claims : ℕ
+usual_claims = 200000
+
+abbrev pub greatest_claims : ℕ
+greatest_claims = 100000000
+
+-- a graph file with the usual number of claims
+abbrev pub usual_file : List ℕ → GraphFile
+usual_file name = record { name = name; claims = usual_claims }
+
+-- what a command line asks for: a command on a graph file, a run of an input made from a number, a graph file as a file of
+-- version 2, an audit of a log of that graph, or a replay of that graph with the lags and transits that the file `air` says
 pub data Order : Type 0 where
-  over : (command : Command) (graph : List ℕ) → Order
+  over : (command : Command) (graph : GraphFile) → Order
   make : (number workers : ℕ) → Order
-  migrate : (graph : List ℕ) → Order
-  audit : (graph log : List ℕ) → Order
-  replay : (graph air : List ℕ) (workers : ℕ) (log : Bool) → Order
+  migrate : (graph : GraphFile) → Order
+  audit : (graph : GraphFile) (log : List ℕ) → Order
+  replay : (graph : GraphFile) (air : List ℕ) (workers : ℕ) (log : Bool) → Order
 
 -- the command that a word names
 abbrev pub verb_of : List ℕ → Option Verb
@@ -49,6 +64,10 @@ number_within low high word =
 -- the number of workers: 1 to 64
 unfoldable pub workers_of : List ℕ → Option ℕ
 workers_of value = number_within 1 64 value
+
+-- the number of claims that a platform may make: 200,000 to 100,000,000
+unfoldable pub claims_of : List ℕ → Option ℕ
+claims_of value = number_within usual_claims greatest_claims value
 
 -- the number to make an input from: 1 to 100
 unfoldable pub made_number_of : List ℕ → Option ℕ
@@ -93,45 +112,63 @@ clock_in [] = Some Paced
 clock_in (value ∷ []) = clock_of value
 clock_in (value ∷ next ∷ more) = None
 
+-- the number of claims: the usual one if none is given, and at most one may be
+abbrev pub claims_in : List (List ℕ) → Option ℕ
+claims_in [] = Some usual_claims
+claims_in (value ∷ []) = claims_of value
+claims_in (value ∷ next ∷ more) = None
+
 -- whether the log is written too: `--log` may be given at most once
 abbrev pub log_in : List (List ℕ) → Option Bool
 log_in [] = Some false
 log_in (word ∷ []) = Some true
 log_in (word ∷ next ∷ more) = None
 
+-- a graph file with the number of claims that the words state
+abbrev pub file_of : Said → List ℕ → Option GraphFile
+file_of words name = option_map (λ claims. record { name = name; claims = claims }) (claims_in words.claims)
+
 -- a run of a graph file
 abbrev pub run_of : Said → List ℕ → Option Order
-run_of words graph =
-    option_and_then (λ workers. option_and_then (λ clock. option_map (λ log. over (command.Run workers clock log) graph) (log_in words.logs)) (clock_in words.clocks)) (workers_in words.workers)
+run_of words name =
+    option_and_then (λ workers. option_and_then (λ clock. option_and_then (λ log. option_map (over (command.Run workers clock log)) (file_of words name)) (log_in words.logs)) (clock_in words.clocks)) (workers_in words.workers)
+
+-- no option is given but the number of claims
+abbrev pub has_claims_alone : Said → Bool
+has_claims_alone words = length words.workers == 0 && (length words.clocks == 0 && length words.logs == 0)
 
 -- no option is given
 abbrev pub is_bare : Said → Bool
-is_bare words = length words.workers == 0 && (length words.clocks == 0 && length words.logs == 0)
+is_bare words = length words.claims == 0 && has_claims_alone words
+
+-- the meaning of a graph file: the number of claims is its only option
+abbrev pub meaning_of : Said → List ℕ → Option Order
+meaning_of words name = if has_claims_alone words then option_map (over command.Meaning) (file_of words name) else None
 
 -- a run of an input made from a number: the number of workers is its only option
 abbrev pub make_of : Said → List ℕ → Option Order
 make_of words word =
-    if length words.clocks == 0 && length words.logs == 0 then option_and_then (λ number. option_map (λ workers. make number workers) (workers_in words.workers)) (made_number_of word) else None
+    if length words.claims == 0 && (length words.clocks == 0 && length words.logs == 0) then option_and_then (λ number. option_map (λ workers. make number workers) (workers_in words.workers)) (made_number_of word) else None
 
--- an audit of a log, which has no options
+-- an audit of a log: the number of claims is its only option
 abbrev pub audit_of : Said → Option Order
-audit_of words = if is_bare words then option_map (λ pair. audit pair.0 pair.1) (pair_in words.graphs) else None
+audit_of words = if has_claims_alone words then option_and_then (λ pair. option_map (λ graph. audit graph pair.1) (file_of words pair.0)) (pair_in words.graphs) else None
 
--- a replay with a recording: the number of workers and the log are its options
+-- a replay with a recording: the number of workers, the log and the number of claims are its options
 abbrev pub replay_of : Said → Option Order
 replay_of words =
-    if length words.clocks == 0 then option_and_then (λ pair. option_and_then (λ workers. option_map (λ log. replay pair.0 pair.1 workers log) (log_in words.logs)) (workers_in words.workers)) (pair_in words.graphs) else None
+    if length words.clocks == 0 then option_and_then (λ pair. option_and_then (λ workers. option_and_then (λ log. option_map (λ graph. replay graph pair.1 workers log) (file_of words pair.0)) (log_in words.logs)) (workers_in words.workers)) (pair_in words.graphs) else None
 
--- the order of a command with its one positional word: of these only `run` and `make` have options
+-- the order of a command with its one positional word: of these only `run`, `meaning` and `make` have options
 abbrev pub order_over : Verb → Said → List ℕ → Option Order
-order_over Run words graph = run_of words graph
-order_over Check words graph = if is_bare words then Some (over command.Check graph) else None
-order_over Meaning words graph = if is_bare words then Some (over command.Meaning graph) else None
+order_over Run words name = run_of words name
+order_over Check words name = if is_bare words then Some (over command.Check (usual_file name)) else None
+order_over Meaning words name = meaning_of words name
 order_over Make words number = make_of words number
-order_over Migrate words graph = if is_bare words then Some (migrate graph) else None
-order_over Slacks words graph = if is_bare words then Some (over command.Slacks graph) else None
-order_over Audit words graph = None
-order_over Replay words graph = None
+order_over Migrate words name = if is_bare words then Some (migrate (usual_file name)) else None
+order_over Slacks words name = if is_bare words then Some (over command.Slacks (usual_file name)) else None
+order_over Audit words name = None
+order_over Replay words name = None
 
 -- the order of a command with the values of the words after it
 abbrev pub order_by : Verb → Said → Option Order

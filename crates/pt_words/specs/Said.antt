@@ -7,17 +7,19 @@ pub record Said : Type 0 where
   pub graphs : List (List ℕ)
   pub workers : List (List ℕ)
   pub clocks : List (List ℕ)
+  pub claims : List (List ℕ)
   pub logs : List (List ℕ)
 
 -- no words
 abbrev pub no_words : Said
-no_words = record { graphs = []; workers = []; clocks = []; logs = [] }
+no_words = record { graphs = []; workers = []; clocks = []; claims = []; logs = [] }
 
 -- the place of a word: among the options, where an option needs its value, or after `--`
 pub data Place : Type 0 where
   among : Place
   workers_due : Place
   clock_due : Place
+  claims_due : Place
   ended : Place
 
 -- a word that begins with `-` and is longer than that
@@ -38,6 +40,10 @@ with_workers word = option_map (λ (said : Said). record said { workers = word �
 abbrev pub with_clock : List ℕ → Option Said → Option Said
 with_clock word = option_map (λ (said : Said). record said { clocks = word ∷ said.clocks })
 
+-- one more number of claims, in front of them
+abbrev pub with_claims : List ℕ → Option Said → Option Said
+with_claims word = option_map (λ (said : Said). record said { claims = word ∷ said.claims })
+
 -- one more `--log`, in front of them
 abbrev pub with_log : Option Said → Option Said
 with_log = option_map (λ (said : Said). record said { logs = [] ∷ said.logs })
@@ -46,11 +52,13 @@ with_log = option_map (λ (said : Said). record said { logs = [] ∷ said.logs }
 abbrev pub option_said : List ℕ → Option (List ℕ) → (Place → Option Said) → Option Said
 option_said name (Some value) next =
     if bytes_eq (codes "workers") name then with_workers value (next among) else (
-    if bytes_eq (codes "clock") name then with_clock value (next among) else None)
+    if bytes_eq (codes "clock") name then with_clock value (next among) else (
+    if bytes_eq (codes "claims") name then with_claims value (next among) else None))
 option_said name None next =
     if bytes_eq (codes "workers") name then next workers_due else (
     if bytes_eq (codes "clock") name then next clock_due else (
-    if bytes_eq (codes "log") name then with_log (next among) else None))
+    if bytes_eq (codes "claims") name then next claims_due else (
+    if bytes_eq (codes "log") name then with_log (next among) else None)))
 
 -- a word `--NAME` or `--NAME=VALUE` (`long_of`); no other word is an option
 abbrev pub dashed_said : Option (List ℕ × Option (List ℕ)) → (Place → Option Said) → Option Said
@@ -64,6 +72,7 @@ word_said among word next =
     if is_dashed word then dashed_said (long_of word) next else with_graph word (next among))
 word_said workers_due word next = if is_dashed word then None else with_workers word (next among)
 word_said clock_due word next = if is_dashed word then None else with_clock word (next among)
+word_said claims_due word next = if is_dashed word then None else with_claims word (next among)
 word_said ended word next = with_graph word (next ended)
 
 -- after the last word no value may be missing
@@ -71,6 +80,7 @@ abbrev pub end_said : Place → Option Said
 end_said among = Some no_words
 end_said workers_due = None
 end_said clock_due = None
+end_said claims_due = None
 end_said ended = Some no_words
 
 -- the values of these words, the first of which is at this place

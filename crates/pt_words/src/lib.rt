@@ -6,11 +6,13 @@
 //! Read first: `Order`, then `order`.
 #![tactic(auto)]
 
+mod laws;
 mod orders;
 mod reading;
 mod short;
 mod values;
 mod words;
 
-pub use orders::{ClockChoice, Command, Order};
+pub use laws::no_present_answer_changes;
+pub use orders::{ClockChoice, Command, GraphFile, Order};
 pub use words::order;

@@ -29,32 +29,40 @@ pub enum Command {
     Slacks,
 }
 
+/// A graph file, and the number of claims that a platform may make: 200,000 unless the words state another, from 200,000 to
+/// 100,000,000. Where a command makes no claims it is 200,000.
+#[derive(Clone, Copy, Debug, PartialEq, Eq)]
+pub struct GraphFile<'a> {
+    pub name: &'a str,
+    pub claims: u64,
+}
+
 /// What a command line asks for.
 #[derive(Clone, Copy, Debug, PartialEq, Eq)]
 pub enum Order<'a> {
-    /// A command on the graph file with this name.
+    /// A command on a graph file.
     Over {
         command: Command,
-        graph: &'a str,
+        graph: GraphFile<'a>,
     },
     /// A run of the input made from `number` (1 to 100), with `workers` workers (1 to 64).
     Make {
         number: u32,
         workers: u32,
     },
-    /// The graph file with this name as a file of version 2.
+    /// A graph file as a file of version 2.
     Migrate {
-        graph: &'a str,
+        graph: GraphFile<'a>,
     },
-    /// An audit: whether the file `log` is what a run of the graph file with this name writes, with the log.
+    /// An audit: whether the file `log` is what a run of the graph file writes, with the log.
     Audit {
-        graph: &'a str,
+        graph: GraphFile<'a>,
         log: &'a str,
     },
-    /// A replay: a run of the graph file with this name, with the lags and transits that the file `air` says, with `workers` workers
+    /// A replay: a run of the graph file, with the lags and transits that the file `air` says, with `workers` workers
     /// (1 to 64), and with the log if `log` is true.
     Replay {
-        graph: &'a str,
+        graph: GraphFile<'a>,
         air: &'a str,
         workers: u32,
         log: bool,

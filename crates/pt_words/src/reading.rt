@@ -14,6 +14,7 @@ pub(crate) fn words_command<'a>(alloc: Global) -> Result<Command<'a>, AllocError
 {
     let command = with_option(alloc, bare_command(alloc), "workers")?;
     let command = with_option(alloc, command, "clock")?;
+    let command = with_option(alloc, command, "claims")?;
     let command = with_flag(alloc, command, "log")?;
     with_graph(alloc, command)
 }

@@ -3,12 +3,18 @@
 ghost use Rattle.std.specs.Prelude.{◌≡◌, ◌≤◌, IfSome};
 ghost use Rattle.std.specs.Char.{is_ascii_digit};
 ghost use Rattle.std.specs.List.{after_first, before_first, list_all};
-ghost use Rattle.pt_words.specs.Grammar.{clock_of, is_colon, is_numeral, made_number_of, number_within, step_clock_of, workers_of};
+ghost use Rattle.pt_words.specs.Grammar.{claims_of, clock_of, is_colon, is_numeral, made_number_of, number_within, step_clock_of, workers_of};
 
 use crate::orders::ClockChoice;
 
 /// The greatest START and STEP of a clock, in microseconds.
 const LATEST: u64 = 1_000_000_000_000_000;
+
+/// The number of claims that a platform may make unless the words state another.
+pub(crate) const USUAL_CLAIMS: u64 = 200_000;
+
+/// The greatest number of claims that the words may state.
+const GREATEST_CLAIMS: u64 = 100_000_000;
 
 /// Whether a word is a decimal number: digits without a sign, and without a leading zero unless it is `0`.
 fn is_numeral(word: &str) -> bool
@@ -57,6 +63,14 @@ pub(crate) fn workers_of(value: &str) -> Option<u32>
         Some(number) => Some(number as u32),
         None => None,
     }
+}
+
+/// The number of claims that a platform may make: 200,000 to 100,000,000.
+#[tactic(auto, unfolding(crate::specs::Grammar::claims_of))]
+pub(crate) fn claims_of(value: &str) -> Option<u64>
+    ensures { result ≡ claims_of value.now }
+{
+    number_within(USUAL_CLAIMS, GREATEST_CLAIMS, value)
 }
 
 /// The number to make an input from: 1 to 100.

@@ -1,13 +1,14 @@
 //! The order that the words ask for.
 
-ghost use Rattle.std.specs.Prelude.{◌≡◌, ◌==◌, IfOk, codes, length, map, option_map, string_bytes};
-ghost use Rattle.pt_words.specs.Grammar.{audit_of, clock_in, is_bare, log_in, make_of, only_word, order_by, order_of, order_over, order_with, pair_in, replay_of, run_of, verb_of, workers_in};
-ghost use Rattle.pt_words.specs.Views.{in_words, texts_in, viewed, values_of};
+ghost use Rattle.std.specs.Prelude.{◌≡◌, ◌==◌, IfOk, IfSome, codes, length, map, option_map, string_bytes};
+ghost use Rattle.pt_words.specs.Grammar.{audit_of, claims_in, clock_in, file_of, has_claims_alone, is_bare, log_in, make_of, meaning_of, only_word, order_by, order_of, order_over, order_with, pair_in, replay_of, run_of, usual_file, verb_of, workers_in};
+ghost use Rattle.pt_words.specs.Claims.{HasFewClaims};
+ghost use Rattle.pt_words.specs.Views.{file_in, in_words, texts_in, viewed, values_of};
 
-use crate::orders::{ClockChoice, Command, Order};
+use crate::orders::{ClockChoice, Command, GraphFile, Order};
 use crate::reading::words_command;
 use crate::short::has_short;
-use crate::values::{clock_of, made_number_of, workers_of};
+use crate::values::{USUAL_CLAIMS, claims_of, clock_of, made_number_of, workers_of};
 use clap::ArgMatches;
 use clap::error::ErrorKind;
 use std::alloc::{AllocError, Global};
@@ -31,6 +32,7 @@ struct Values<'m, 'a> {
     graphs: Option<&'m [&'a str]>,
     workers: Option<&'m [&'a str]>,
     clocks: Option<&'m [&'a str]>,
+    claims: Option<&'m [&'a str]>,
     logs: Option<&'m [&'a str]>,
 }
 
@@ -41,10 +43,11 @@ struct Values<'m, 'a> {
 /// value is the next word, or follows `=` in the same word; `--log` takes none. A word `--` ends the options. Any other word that
 /// begins with `-` and is longer is refused, also as a value.
 ///
-/// `run g.json --workers 2 --log` is `Run` of `g.json` with 2 workers, the paced clock and the log; `run g.json --workers 0` is
+/// `run g.json --workers 2 --log` is `Run` of `g.json` with 2 workers, the paced clock, 200,000 claims and the log; `run g.json --workers 0` is
 /// none, since there are 1 to 64 workers.
 pub fn order<'a>(alloc: Global, words: &'a [String]) -> Result<Option<Order<'a>>, AllocError>
-    ensures { IfOk result (λ order. option_map in_words order ≡ order_of words.entry.now) }
+    ensures order { IfOk result (λ order. option_map in_words order ≡ order_of words.entry.now) }
+    ensures few { IfOk result (λ order. IfSome order (λ order. HasFewClaims (in_words order))) }
 {
     let [first, rest @ ..] = words else {
         return Ok(None);
@@ -99,12 +102,14 @@ fn values_in<'m, 'a>(matches: &'m ArgMatches<'a>) -> Values<'m, 'a>
     ensures graphs { texts_in result.graphs ≡ values_of matches.entry.now (codes "graph") }
     ensures workers { texts_in result.workers ≡ values_of matches.entry.now (codes "workers") }
     ensures clocks { texts_in result.clocks ≡ values_of matches.entry.now (codes "clock") }
+    ensures claims { texts_in result.claims ≡ values_of matches.entry.now (codes "claims") }
     ensures logs { texts_in result.logs ≡ values_of matches.entry.now (codes "log") }
 {
     Values {
         graphs: matches.get_strs("graph"),
         workers: matches.get_strs("workers"),
         clocks: matches.get_strs("clock"),
+        claims: matches.get_strs("claims"),
         logs: matches.get_strs("log"),
     }
 }
@@ -121,36 +126,54 @@ fn order_by<'m, 'a>(verb: Verb, values: Values<'m, 'a>) -> Option<Order<'a>>
 }
 
 /// The order that a command with one positional word asks for with that word.
-fn order_over<'m, 'a>(verb: Verb, values: Values<'m, 'a>, graph: &'a str) -> Option<Order<'a>>
-    ensures { option_map in_words result ≡ order_over verb (viewed values.entry) graph.entry.now }
+fn order_over<'m, 'a>(verb: Verb, values: Values<'m, 'a>, word: &'a str) -> Option<Order<'a>>
+    ensures { option_map in_words result ≡ order_over verb (viewed values.entry) word.entry.now }
 {
     match verb {
-        Verb::Run => run_of(values, graph),
+        Verb::Run => run_of(values, word),
         Verb::Check if is_bare(values) => Some(Order::Over {
             command: Command::Check,
-            graph,
+            graph: usual_file(word),
         }),
-        Verb::Meaning if is_bare(values) => Some(Order::Over {
-            command: Command::Meaning,
-            graph,
+        Verb::Meaning => meaning_of(values, word),
+        Verb::Make => make_of(values, word),
+        Verb::Migrate if is_bare(values) => Some(Order::Migrate {
+            graph: usual_file(word),
         }),
-        Verb::Make => make_of(values, graph),
-        Verb::Migrate if is_bare(values) => Some(Order::Migrate { graph }),
         Verb::Slacks if is_bare(values) => Some(Order::Over {
             command: Command::Slacks,
-            graph,
+            graph: usual_file(word),
         }),
         _ => None,
     }
 }
 
+/// A graph file with the usual number of claims.
+fn usual_file<'a>(name: &'a str) -> GraphFile<'a>
+    ensures { file_in result ≡ usual_file name.entry.now }
+{
+    GraphFile {
+        name,
+        claims: USUAL_CLAIMS,
+    }
+}
+
+/// A graph file with the number of claims that the words state.
+fn file_of<'m, 'a>(values: Values<'m, 'a>, name: &'a str) -> Option<GraphFile<'a>>
+    ensures { option_map file_in result ≡ file_of (viewed values.entry) name.entry.now }
+{
+    let claims = claims_in(values.claims)?;
+    Some(GraphFile { name, claims })
+}
+
 /// A run of a graph file.
-fn run_of<'m, 'a>(values: Values<'m, 'a>, graph: &'a str) -> Option<Order<'a>>
-    ensures { option_map in_words result ≡ run_of (viewed values.entry) graph.entry.now }
+fn run_of<'m, 'a>(values: Values<'m, 'a>, name: &'a str) -> Option<Order<'a>>
+    ensures { option_map in_words result ≡ run_of (viewed values.entry) name.entry.now }
 {
     let workers = workers_in(values.workers)?;
     let clock = clock_in(values.clocks)?;
     let log = log_in(values.logs)?;
+    let graph = file_of(values, name)?;
     let command = Command::Run {
         workers,
         clock,
@@ -159,11 +182,25 @@ fn run_of<'m, 'a>(values: Values<'m, 'a>, graph: &'a str) -> Option<Order<'a>>
     Some(Order::Over { command, graph })
 }
 
+/// The meaning of a graph file.
+fn meaning_of<'m, 'a>(values: Values<'m, 'a>, name: &'a str) -> Option<Order<'a>>
+    ensures { option_map in_words result ≡ meaning_of (viewed values.entry) name.entry.now }
+{
+    if !has_claims_alone(values) {
+        return None;
+    }
+    let graph = file_of(values, name)?;
+    Some(Order::Over {
+        command: Command::Meaning,
+        graph,
+    })
+}
+
 /// A run of an input made from a number.
 fn make_of<'m, 'a>(values: Values<'m, 'a>, word: &'a str) -> Option<Order<'a>>
     ensures { option_map in_words result ≡ make_of (viewed values.entry) word.entry.now }
 {
-    if !is_absent(values.clocks) || !is_absent(values.logs) {
+    if !is_absent(values.claims) || !is_absent(values.clocks) || !is_absent(values.logs) {
         return None;
     }
     let number = made_number_of(word)?;
@@ -175,10 +212,11 @@ fn make_of<'m, 'a>(values: Values<'m, 'a>, word: &'a str) -> Option<Order<'a>>
 fn audit_of<'m, 'a>(values: Values<'m, 'a>) -> Option<Order<'a>>
     ensures { option_map in_words result ≡ audit_of (viewed values.entry) }
 {
-    if !is_bare(values) {
+    if !has_claims_alone(values) {
         return None;
     }
-    let (graph, log) = pair_in(values.graphs)?;
+    let (name, log) = pair_in(values.graphs)?;
+    let graph = file_of(values, name)?;
     Some(Order::Audit { graph, log })
 }
 
@@ -189,9 +227,10 @@ fn replay_of<'m, 'a>(values: Values<'m, 'a>) -> Option<Order<'a>>
     if !is_absent(values.clocks) {
         return None;
     }
-    let (graph, air) = pair_in(values.graphs)?;
+    let (name, air) = pair_in(values.graphs)?;
     let workers = workers_in(values.workers)?;
     let log = log_in(values.logs)?;
+    let graph = file_of(values, name)?;
     Some(Order::Replay {
         graph,
         air,
@@ -203,6 +242,13 @@ fn replay_of<'m, 'a>(values: Values<'m, 'a>) -> Option<Order<'a>>
 /// Whether no option is given.
 fn is_bare<'m, 'a>(values: Values<'m, 'a>) -> bool
     ensures { result ≡ is_bare (viewed values.entry) }
+{
+    is_absent(values.claims) && has_claims_alone(values)
+}
+
+/// Whether no option is given but the number of claims.
+fn has_claims_alone<'m, 'a>(values: Values<'m, 'a>) -> bool
+    ensures { result ≡ has_claims_alone (viewed values.entry) }
 {
     is_absent(values.workers) && is_absent(values.clocks) && is_absent(values.logs)
 }
@@ -256,6 +302,17 @@ fn clock_in<'m, 'a>(words: Option<&'m [&'a str]>) -> Option<ClockChoice>
     match words {
         None | Some([]) => Some(ClockChoice::Paced),
         Some([value]) => clock_of(value),
+        _ => None,
+    }
+}
+
+/// The number of claims that a platform may make; the usual one by default.
+fn claims_in<'m, 'a>(words: Option<&'m [&'a str]>) -> Option<u64>
+    ensures { result ≡ claims_in (texts_in words.entry) }
+{
+    match words {
+        None | Some([]) => Some(USUAL_CLAIMS),
+        Some([value]) => claims_of(value),
         _ => None,
     }
 }

@@ -8,5 +8,6 @@ pub returns : goal.returns
 returns c =
     let workers = c.in_ok-command.ensures ∙ ap (λ a. with_rule a (option_rule (codes "workers"))) c.bare_command.ensures in
     let clock = c.in_ok-command-2.ensures ∙ ap (λ a. with_rule a (option_rule (codes "clock"))) workers in
-    let log = c.in_ok-command-3.ensures ∙ ap (λ a. with_rule a (flag_rule (codes "log"))) clock in
+    let claims = c.in_ok-command-3.ensures ∙ ap (λ a. with_rule a (option_rule (codes "claims"))) clock in
+    let log = c.in_ok-command-4.ensures ∙ ap (λ a. with_rule a (flag_rule (codes "log"))) claims in
     record { app = subst (λ a. IfOk c.with_graph.result (λ k. app_of k ≡ with_rule a graph_rule)) log c.with_graph.ensures }

@@ -22,6 +22,7 @@ returns-in-Ok c =
       graphs = (c.values_in.ensures.graphs ∙ ap (λ o. unwrap_or o []) (raw_values-rows found (codes "graph"))) i;
       workers = (c.values_in.ensures.workers ∙ ap (λ o. unwrap_or o []) (raw_values-rows found (codes "workers"))) i;
       clocks = (c.values_in.ensures.clocks ∙ ap (λ o. unwrap_or o []) (raw_values-rows found (codes "clock"))) i;
+      claims = (c.values_in.ensures.claims ∙ ap (λ o. unwrap_or o []) (raw_values-rows found (codes "claims"))) i;
       logs = (c.values_in.ensures.logs ∙ ap (λ o. unwrap_or o []) (raw_values-rows found (codes "log"))) i;
     } in
     c.order_by.ensures
