@@ -8,6 +8,7 @@ use Rattle.csv.specs.declared.parser.State.TheVariants as st
 use Rattle.csv.specs.Reading.{strip_bom}
 use Rattle.pt_types.specs.declared.graph.Graph.{Graph}
 use Rattle.pt_semantics.specs.Lists.{Each}
+use Rattle.pt_sensors.specs.Limits.{file_limits}
 use Rattle.pt_sensors.specs.Numbers.{at_most, limited, field_number}
 use Rattle.pt_sensors.specs.Rows.{Cells, cells}
 use Rattle.pt_sensors.specs.RowsOf.{next}
@@ -95,17 +96,17 @@ headed : (most : ℕ) (b : Bool) (r : Rows) (rows : List AirRow) → (r ≡ Ok r
 headed most true r rows f h = f h
 headed most false r rows f h = absurd cc
 
-after_header-rows : (g : Graph) (o : Option Read) (rows : List AirRow) → air_after_header g o ≡ Ok rows → AreRows 100000 rows
+after_header-rows : (g : Graph) (o : Option Read) (rows : List AirRow) → air_after_header g o ≡ Ok rows → AreRows (file_limits g.claims).rows rows
 after_header-rows g None rows h = absurd cc
 after_header-rows g (Some p) rows h =
-    headed 100000 (is_air_header p.0) (air_rows_from g 100000 [] p.1 p.2) rows (λ is. rows_from-rows g 100000 [] rows p.1 p.2 100000 (omega arith) tt is) h
+    headed (file_limits g.claims).rows (is_air_header p.0) (air_rows_from g (file_limits g.claims).rows [] p.1 p.2) rows (λ is. rows_from-rows g (file_limits g.claims).rows [] rows p.1 p.2 (file_limits g.claims).rows (omega arith) tt is) h
 
 not_too_long : (most : ℕ) (b : Bool) (r : Rows) (rows : List AirRow) → (r ≡ Ok rows → AreRows most rows) → cond b (Err fault.TooLong) r ≡ Ok rows → AreRows most rows
 not_too_long most true r rows f h = absurd cc
 not_too_long most false r rows f h = f h
 
 -- the rows of a file
-pub rows_of-rows : (g : Graph) (bytes : List ℕ) (rows : List AirRow) → air_rows_of g bytes ≡ Ok rows → AreRows 100000 rows
+pub rows_of-rows : (g : Graph) (bytes : List ℕ) (rows : List AirRow) → air_rows_of g bytes ≡ Ok rows → AreRows (file_limits g.claims).rows rows
 unfolding air_rows_of
 rows_of-rows g bytes rows h =
-    not_too_long 100000 (nat_lt 8388608 (length bytes)) (air_after_header g (next st.StartRecord (strip_bom bytes))) rows (after_header-rows g (next st.StartRecord (strip_bom bytes)) rows) h
+    not_too_long (file_limits g.claims).rows (nat_lt (file_limits g.claims).bytes (length bytes)) (air_after_header g (next st.StartRecord (strip_bom bytes))) rows (after_header-rows g (next st.StartRecord (strip_bom bytes)) rows) h

@@ -6,6 +6,7 @@ use Rattle.csv.specs.Reading.{strip_bom}
 use Rattle.csv.specs.declared.parser.State.{State}
 use Rattle.csv.specs.declared.parser.State.TheVariants as st
 use Rattle.pt_types.specs.declared.graph.Graph.{Graph}
+use Rattle.pt_sensors.specs.Limits.{file_limits}
 use Rattle.pt_sensors.specs.RowsOf.{next}
 use Rattle.pt_types.specs.declared.air.Air.{Air}
 use Rattle.pt_air.specs.declared.fault.AirFault.{AirFault}
@@ -32,11 +33,11 @@ air_rows_from g (suc left) rows s xs = air_goes_on g rows (λ more. air_rows_fro
 -- the header, and then the rows
 abbrev pub air_after_header : Graph → Option Read → Result (List AirRow) AirFault
 air_after_header g None = Err fault.Header
-air_after_header g (Some p) = if is_air_header p.0 then air_rows_from g 100000 [] p.1 p.2 else Err fault.Header
+air_after_header g (Some p) = if is_air_header p.0 then air_rows_from g (file_limits g.claims).rows [] p.1 p.2 else Err fault.Header
 
--- the rows of a text
+-- the rows of a text, within the limits of a file for the claims of the graph
 unfoldable pub air_rows_of : Graph → List ℕ → Result (List AirRow) AirFault
-air_rows_of g bytes = if nat_lt 8388608 (length bytes) then Err fault.TooLong else air_after_header g (next st.StartRecord (strip_bom bytes))
+air_rows_of g bytes = if nat_lt (file_limits g.claims).bytes (length bytes) then Err fault.TooLong else air_after_header g (next st.StartRecord (strip_bom bytes))
 
 abbrev pub time_of : AirRow → ℕ
 time_of row = row.time

@@ -1,5 +1,5 @@
 -- Which recorded times keep to the stated bounds.
-use Rattle.std.specs.Prelude.{◌≡◌, ℕ, suc, ◌==◌, ◌&&◌, ◌||◌, ◌≤◌, List, [], Bool, false, Option, Some, nat_lt, option_map, position, slice_get, slice_index, slice_index_or, unwrap_or}
+use Rattle.std.specs.Prelude.{ℕ, suc, ◌==◌, ◌&&◌, ◌||◌, List, Bool, false, Option, nat_lt, option_map, position, slice_get, unwrap_or}
 use Rattle.std.specs.List.{list_any}
 use Rattle.pt_types.specs.declared.graph.Graph.{Graph}
 use Rattle.pt_types.specs.declared.graph.Link.{Link}

@@ -1,6 +1,6 @@
 //! The first row that breaks a stated bound.
 
-ghost use Rattle.std.specs.Prelude.{◌≡◌, ◌<◌, ◌≤◌, false, length, nat_lt, option_map, position, slice_get, slice_index, unwrap_or};
+ghost use Rattle.std.specs.Prelude.{◌≡◌, ◌<◌, ◌≤◌, ◌^◌, false, length, nat_lt, option_map, position, slice_get, slice_index, unwrap_or};
 ghost use Rattle.std.specs.List.{list_any};
 ghost use Rattle.pt_types.specs.declared.graph.Link.{Link};
 ghost use Rattle.pt_air.specs.Bounds.{breach_of, breaks, breaks_error, is_link_of};
@@ -12,7 +12,7 @@ use pt_types::{Graph, Link};
 
 /// The number, from 1, of the first row that breaks a stated bound, by the lags of all platforms.
 pub fn breach_of(graph: &Graph, lags: &[u64], rows: &[AirRow]) -> Option<u32>
-    requires { length rows.now ≤ 100000 }
+    requires { length rows.now < 2 ^ 32 }
     ensures { result ≡ breach_of graph.now lags.now rows.now }
 {
     let index = breach_index(graph, lags, rows)?;

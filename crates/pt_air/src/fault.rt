@@ -7,7 +7,7 @@ use pt_tags::Memory;
 pub enum AirFault {
     /// Out of memory.
     Memory,
-    /// The file has more than 8,388,608 bytes.
+    /// The file has more bytes than its limits allow.
     TooLong,
     /// There is no first record, or it is not `what`, `name`, `value`.
     Header,
@@ -19,7 +19,7 @@ pub enum AirFault {
     Number(u32),
     /// The row is a second `lag` of its platform.
     Repeated(u32),
-    /// A record follows the first 100,000 rows, and these have no fault.
+    /// A record follows as many rows as the limits allow, and these have no fault.
     TooManyRows,
 }
 

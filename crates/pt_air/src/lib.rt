@@ -18,4 +18,4 @@ mod times;
 
 pub use fault::AirFault;
 pub use lines::fault_line;
-pub use reader::{MOST_AIR_BYTES, read_air};
+pub use reader::read_air;

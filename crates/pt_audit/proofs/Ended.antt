@@ -13,7 +13,7 @@ use Rattle.pt_confluence.specs.Gathered.{HaveFinished}
 use Rattle.pt_audit.specs.Parsing.Lines.{Block, blocks_from, text_lines}
 use Rattle.pt_audit.specs.Parsing.Places.{IsLogAt}
 use Rattle.pt_audit.specs.Finishing.{IsFinalVerdict}
-use Rattle.pt_types.specs.Limits.{most_log_bytes}
+use Rattle.pt_audit.specs.Limits.{log_limit}
 use Rattle.pt_audit.specs.Verifying.{AreVerified}
 use Rattle.pt_audit.specs.Verdicts.{HasLog, IsVerdict, IsVerdictOn, StopsAt}
 use Rattle.pt_audit.specs.declared.order.Order.{Order}
@@ -49,10 +49,10 @@ module _ (plan : Parts) (rows : ℕ → List Row) (blocks : List Block) (order :
       other line e = cc
 
 -- the verdict on a log is that on its file
-pub verdict_on_file : (plan : Parts) (rows : ℕ → List Row) (bytes : List ℕ) (place line : ℕ) (v : Verdict) → length bytes ≤ most_log_bytes → IsLogAt bytes place line → IsVerdictOn plan rows (blocks_from (line + 1) (text_lines (drop (place + 4) bytes))) v → IsVerdict plan rows bytes v
+pub verdict_on_file : (plan : Parts) (rows : ℕ → List Row) (bytes : List ℕ) (place line : ℕ) (v : Verdict) → length bytes ≤ log_limit plan.graph.claims → IsLogAt bytes place line → IsVerdictOn plan rows (blocks_from (line + 1) (text_lines (drop (place + 4) bytes))) v → IsVerdict plan rows bytes v
 verdict_on_file plan rows bytes place line v short at h = by v h
   where
-    has : (w : Verdict) → IsVerdictOn plan rows (blocks_from (line + 1) (text_lines (drop (place + 4) bytes))) w → HasLog bytes (λ blocks. IsVerdictOn plan rows blocks w)
+    has : (w : Verdict) → IsVerdictOn plan rows (blocks_from (line + 1) (text_lines (drop (place + 4) bytes))) w → HasLog (log_limit plan.graph.claims) bytes (λ blocks. IsVerdictOn plan rows blocks w)
     has w k = record {
       short = short;
       head = text_lines (take place bytes);

@@ -21,5 +21,6 @@ pub mod Pushed
 pub mod Refused
 pub mod Remade
 pub mod Remaking
+pub mod SmallLimit
 pub mod Start
 pub mod Texts

@@ -12,7 +12,7 @@ use Rattle.pt_causality.specs.Ranked.{level_of}
 use Rattle.pt_offsets.specs.Plans.{IsAdmitted, Parts}
 use Rattle.pt_audit.specs.Parsing.Lines.{Block, at_log, blocks_from, text_lines}
 use Rattle.pt_audit.specs.Logged.{AreLawful, BlocksAreLawful, LoggedTurn, turns_of}
-use Rattle.pt_types.specs.Limits.{most_log_bytes}
+use Rattle.pt_audit.specs.Limits.{log_limit}
 use Rattle.pt_audit.specs.Theorems.{VerdictsAreOne}
 use Rattle.pt_audit.specs.Verdicts.{AllAreFinished, HasLog, IsFirstUnfinished, IsFirstUnlinked, IsLinked, IsVerdict, IsVerdictOn, StopsAt, AllBlocksSay}
 use Rattle.pt_audit.specs.declared.verdict.Verdict.{Verdict}
@@ -165,7 +165,7 @@ module _ (plan : Parts) (rows : ℕ → List Row) (blocks : List Block) (admitte
 -- Whole files.
 
 -- a file that is too long has no other verdict
-too_long_only : (plan : Parts) (rows : ℕ → List Row) (bytes : List ℕ) → most_log_bytes < length bytes → (w : Verdict) → IsVerdict plan rows bytes w → w ≡ TooLong
+too_long_only : (plan : Parts) (rows : ℕ → List Row) (bytes : List ℕ) → log_limit plan.graph.claims < length bytes → (w : Verdict) → IsVerdict plan rows bytes w → w ≡ TooLong
 too_long_only plan rows bytes long TooLong h = refl
 too_long_only plan rows bytes long NoLog h = absurd (omega (arith, long, h.0))
 too_long_only plan rows bytes long (Turn l) h = absurd (omega (arith, long, h.short))
@@ -175,7 +175,7 @@ too_long_only plan rows bytes long Table h = absurd (omega (arith, long, h.short
 too_long_only plan rows bytes long Fine h = absurd (omega (arith, long, h.short))
 
 -- nor has a file without a line `log`
-no_log_only : (plan : Parts) (rows : ℕ → List Row) (bytes : List ℕ) → length bytes ≤ most_log_bytes → at_log (text_lines bytes) ≡ None → (w : Verdict) → IsVerdict plan rows bytes w → w ≡ NoLog
+no_log_only : (plan : Parts) (rows : ℕ → List Row) (bytes : List ℕ) → length bytes ≤ log_limit plan.graph.claims → at_log (text_lines bytes) ≡ None → (w : Verdict) → IsVerdict plan rows bytes w → w ≡ NoLog
 no_log_only plan rows bytes short none TooLong h = absurd (omega (arith, short, h))
 no_log_only plan rows bytes short none NoLog h = refl
 no_log_only plan rows bytes short none (Turn l) h = absurd (none_some (h.head, h.rest) (sym none ∙ h.lines))
@@ -185,14 +185,14 @@ no_log_only plan rows bytes short none Table h = absurd (none_some (h.head, h.re
 no_log_only plan rows bytes short none Fine h = absurd (none_some (h.head, h.rest) (sym none ∙ h.lines))
 
 -- two verdicts on the log of a file are one
-log_once : (plan : Parts) (rows : ℕ → List Row) (bytes : List ℕ) (v w : Verdict) → IsAdmitted plan → HasLog bytes (λ blocks. IsVerdictOn plan rows blocks v) → HasLog bytes (λ blocks. IsVerdictOn plan rows blocks w) → v ≡ w
+log_once : (plan : Parts) (rows : ℕ → List Row) (bytes : List ℕ) (v w : Verdict) → IsAdmitted plan → HasLog (log_limit plan.graph.claims) bytes (λ blocks. IsVerdictOn plan rows blocks v) → HasLog (log_limit plan.graph.claims) bytes (λ blocks. IsVerdictOn plan rows blocks w) → v ≡ w
 log_once plan rows bytes v w admitted h k =
     let same = same_some (k.head, k.rest) (h.head, h.rest) (sym k.lines ∙ h.lines) in
     let blocks : blocks_from (length k.head + 2) k.rest ≡ blocks_from (length h.head + 2) h.rest = ap (λ (parts : List (List ℕ) × List (List ℕ)). blocks_from (length parts.0 + 2) parts.1) same in
     verdict_once plan rows (blocks_from (length h.head + 2) h.rest) admitted v w h.fact (subst (λ (bs : List Block). IsVerdictOn plan rows bs w) blocks k.fact)
 
 -- a file with a line `log` has no verdict but that on its log
-log_only : (plan : Parts) (rows : ℕ → List Row) (bytes : List ℕ) (v w : Verdict) → IsAdmitted plan → HasLog bytes (λ blocks. IsVerdictOn plan rows blocks v) → IsVerdict plan rows bytes w → v ≡ w
+log_only : (plan : Parts) (rows : ℕ → List Row) (bytes : List ℕ) (v w : Verdict) → IsAdmitted plan → HasLog (log_limit plan.graph.claims) bytes (λ blocks. IsVerdictOn plan rows blocks v) → IsVerdict plan rows bytes w → v ≡ w
 log_only plan rows bytes v TooLong admitted h k = absurd (omega (arith, h.short, k))
 log_only plan rows bytes v NoLog admitted h k = absurd (none_some (h.head, h.rest) (sym k.1 ∙ h.lines))
 log_only plan rows bytes v (Turn l) admitted h k = log_once plan rows bytes v (Turn l) admitted h k

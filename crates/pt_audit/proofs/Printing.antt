@@ -24,7 +24,7 @@ use Rattle.pt_tables.specs.Platforms.{histories}
 use Rattle.pt_confluence.specs.Gathered.{HaveFinished}
 use Rattle.pt_audit.specs.Parsing.Hints.{IsLoggable, IsLoggableOn}
 use Rattle.pt_audit.specs.LawfulLogs.{IsLawfulLog, history_in}
-use Rattle.pt_types.specs.Limits.{most_log_bytes}
+use Rattle.pt_audit.specs.Limits.{log_limit}
 use Rattle.pt_audit.specs.Theorems.{HaveLegal, PrintedLogsAreLawful}
 use Rattle.pt_audit.proofs.Judged.{member}
 use Rattle.pt_audit.proofs.OnLinks.{IsOn, IsOnLinks, on_links}
@@ -102,7 +102,7 @@ module _ (plan : Parts) (rows : ℕ → List Row) (platforms : List PlatformView
   linked : AreLinked plan.graph (history_in (histories platforms))
   linked = let same : histories_of platforms ≡ history_in (histories platforms) = λ j i. sym (same_history platforms i) j in subst (AreLinked plan.graph) same finished.linked
 
-  lawful : IsMeaning plan.graph (rank_of plan.ranks) rows firings → bytes ≡ tables_text plan.graph firings ++ log_text plan.graph (histories platforms) → length bytes ≤ most_log_bytes → IsLawfulLog plan rows bytes
+  lawful : IsMeaning plan.graph (rank_of plan.ranks) rows firings → bytes ≡ tables_text plan.graph firings ++ log_text plan.graph (histories platforms) → length bytes ≤ log_limit plan.graph.claims → IsLawfulLog plan rows bytes
   lawful meaning text short = record {
     short = short;
     histories = histories platforms;

@@ -1,6 +1,5 @@
 -- What a log must be: the tables of the meaning, and then the log of finished platforms that took all that was sent.
 use Rattle.std.specs.Prelude.{◌≡◌, ◌<◌, ◌≤◌, ◌++◌, [], ℕ, List, length, slice_index_or}
-use Rattle.pt_types.specs.Limits.{most_log_bytes}
 use Rattle.pt_types.specs.declared.firing.ActorFiring.{ActorFiring}
 use Rattle.pt_types.specs.declared.rows.Row.{Row}
 use Rattle.pt_semantics.specs.History.{IsLegal}
@@ -13,6 +12,7 @@ use Rattle.pt_semantics.specs.Turn.{Turn}
 use Rattle.pt_causality.specs.Ranked.{level_of, rank_of}
 use Rattle.pt_offsets.specs.Plans.{Parts}
 use Rattle.pt_tables.specs.Log.{log_text}
+use Rattle.pt_audit.specs.Limits.{log_limit}
 use Rattle.pt_audit.specs.Parsing.Hints.{IsLoggable}
 
 -- the history of platform i; none past the last
@@ -21,7 +21,7 @@ history_in histories i = slice_index_or histories i []
 
 -- the file is a lawful log of this plan over these rows
 pub record IsLawfulLog (plan : Parts) (rows : ℕ → List Row) (bytes : List ℕ) : Type 0 where
-  pub short : length bytes ≤ most_log_bytes
+  pub short : length bytes ≤ log_limit plan.graph.claims
   -- each platform of the graph has a legal history that leads to a state in which it is finished
   pub histories : List (List Turn)
   pub all : length histories ≡ length plan.graph.platforms

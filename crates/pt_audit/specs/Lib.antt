@@ -1,6 +1,7 @@
 pub mod Finishing
 pub mod FromText
 pub mod LawfulLogs
+pub mod Limits
 pub mod Logged
 pub mod Parsing
 pub mod Remaking

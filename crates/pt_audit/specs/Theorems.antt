@@ -14,7 +14,7 @@ use Rattle.pt_tables.specs.Log.{log_text}
 use Rattle.pt_tables.specs.Platforms.{histories}
 use Rattle.pt_confluence.specs.Gathered.{HaveFinished}
 use Rattle.pt_audit.specs.LawfulLogs.{IsLawfulLog}
-use Rattle.pt_types.specs.Limits.{most_log_bytes}
+use Rattle.pt_audit.specs.Limits.{log_limit}
 use Rattle.pt_audit.specs.Verdicts.{IsHead, IsVerdict}
 use Rattle.pt_audit.specs.declared.verdict.Verdict.{Verdict}
 use Rattle.pt_audit.specs.declared.verdict.Verdict.TheVariants.{Fine}
@@ -40,4 +40,4 @@ HaveLegal plan rows platforms = (i : ℕ) (v : PlatformView) → slice_get platf
 abbrev pub PrintedLogsAreLawful : Type 0
 PrintedLogsAreLawful = (plan : Parts) (rows : ℕ → List Row) (platforms : List PlatformView) (firings : List ActorFiring) (bytes : List ℕ) →
     IsAdmitted plan → HaveFinished plan rows platforms → HaveLegal plan rows platforms → Each (Each IsHeldTurn) (histories platforms) →
-    IsMeaning plan.graph (rank_of plan.ranks) rows firings → bytes ≡ tables_text plan.graph firings ++ log_text plan.graph (histories platforms) → length bytes ≤ most_log_bytes → IsLawfulLog plan rows bytes
+    IsMeaning plan.graph (rank_of plan.ranks) rows firings → bytes ≡ tables_text plan.graph firings ++ log_text plan.graph (histories platforms) → length bytes ≤ log_limit plan.graph.claims → IsLawfulLog plan rows bytes

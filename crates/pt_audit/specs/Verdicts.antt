@@ -13,14 +13,14 @@ use Rattle.pt_offsets.specs.Plans.{Parts}
 use Rattle.pt_confluence.specs.Gathered.{AreTables}
 use Rattle.pt_audit.specs.Parsing.Lines.{Block, at_log, blocks_from, text_lines}
 use Rattle.pt_audit.specs.Parsing.Places.{IsLogAt}
-use Rattle.pt_types.specs.Limits.{most_log_bytes}
+use Rattle.pt_audit.specs.Limits.{log_limit}
 use Rattle.pt_audit.specs.Logged.{AreLawful, AreLogged, BlocksAreLawful, LoggedTurn, turns_of}
 use Rattle.pt_audit.specs.declared.verdict.Verdict.{Verdict}
 use Rattle.pt_audit.specs.declared.verdict.Verdict.TheVariants.{TooLong, NoLog, Turn, Unfinished, Unlinked, Fine}
 
--- a file that is not too long and has a line `log`: the lines before it, and the blocks of the lines after it
-pub record HasLog (bytes : List ℕ) (Fact : List Block → Type 0) : Type 0 where
-  pub short : length bytes ≤ most_log_bytes
+-- a file of at most this many bytes that has a line `log`: the lines before it, and the blocks of the lines after it
+pub record HasLog (most : ℕ) (bytes : List ℕ) (Fact : List Block → Type 0) : Type 0 where
+  pub short : length bytes ≤ most
   pub head : List (List ℕ)
   pub rest : List (List ℕ)
   pub lines : at_log (text_lines bytes) ≡ Some (head, rest)
@@ -75,9 +75,9 @@ IsVerdictOn plan rows blocks _ = ⊥
 
 -- the verdict on a file, with this plan and these rows. The head isn't judged here, so `Table` is no verdict of its own
 abbrev pub IsVerdict : Parts → (ℕ → List Row) → List ℕ → Verdict → Type 0
-IsVerdict plan rows bytes TooLong = most_log_bytes < length bytes
-IsVerdict plan rows bytes NoLog = (length bytes ≤ most_log_bytes) × (at_log (text_lines bytes) ≡ None)
-IsVerdict plan rows bytes v = HasLog bytes (λ blocks. IsVerdictOn plan rows blocks v)
+IsVerdict plan rows bytes TooLong = log_limit plan.graph.claims < length bytes
+IsVerdict plan rows bytes NoLog = (length bytes ≤ log_limit plan.graph.claims) × (at_log (text_lines bytes) ≡ None)
+IsVerdict plan rows bytes v = HasLog (log_limit plan.graph.claims) bytes (λ blocks. IsVerdictOn plan rows blocks v)
 
 -- the lines before the first line `log` are the tables of the meaning
 pub record IsHead (plan : Parts) (rows : ℕ → List Row) (bytes : List ℕ) : Type 0 where

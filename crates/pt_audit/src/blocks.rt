@@ -22,7 +22,7 @@ pub(crate) fn verify_blocks(
     last: &mut [Option<Message>],
     tools: &mut Tools<'_>,
     log: Cursor,
-) -> Result<Option<u32>, Memory>
+) -> Result<Option<u64>, Memory>
     requires begun { (rows : ℕ → List Row)
         × AreVerified plan.now rows [] order.old last.old platforms.old }
     ensures { (rows : ℕ → List Row) →

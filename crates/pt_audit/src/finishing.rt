@@ -17,7 +17,7 @@ pub(crate) fn verdict_after(
     alloc: Global,
     graph: &Graph,
     platforms: &[Platform],
-    stop: Option<u32>,
+    stop: Option<u64>,
 ) -> Result<Verdict, Memory>
     requires lawful { IsLawful graph.now }
     requires all { length platforms.now ≡ length graph.now.platforms }

@@ -11,6 +11,7 @@ mod block;
 mod blocks;
 mod finishing;
 mod laws;
+mod limits;
 mod linking;
 mod log;
 mod matching;
@@ -24,5 +25,6 @@ mod verification;
 pub use laws::{
     fine_logs_are_lawful, lawful_logs_are_fine, printed_logs_are_lawful, verdicts_are_one,
 };
+pub use limits::log_limit;
 pub use verdict::Verdict;
 pub use verification::{Verification, verify};

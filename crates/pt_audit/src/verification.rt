@@ -9,6 +9,7 @@ ghost use Rattle.pt_confluence.specs.Gathered.{HaveFinished};
 ghost use Rattle.pt_audit.specs.Verdicts.{BeginsAt, IsVerdict};
 ghost use Rattle.pt_audit.specs.declared.verdict.Verdict.TheVariants.{Fine};
 
+use crate::limits::log_limit;
 use crate::log::verify_log;
 use crate::parse::{Cursor, log_at};
 use crate::verdict::Verdict;
@@ -17,7 +18,6 @@ use pt_offsets::Plan;
 use pt_sensors::SensorRows;
 use pt_tags::Memory;
 use pt_turn::{Platform, open_all};
-use pt_types::MOST_LOG_BYTES;
 use std::alloc::Global;
 use std::sync::Arc;
 
@@ -55,7 +55,7 @@ pub fn verify(
     ensures none { IfOk result (λ r. (r.verdict ≡ Fine → ⊥) → r.platforms.items ≡ []) }
     ensures log_at { IfOk result (λ r. BeginsAt bytes.now r.verdict r.log_at) }
 {
-    if bytes.len() > MOST_LOG_BYTES {
+    if bytes.len() > log_limit(plan.graph().claims) {
         return Ok(unlawful(alloc, Verdict::TooLong, 0));
     }
     let Some(at) = log_at(bytes) else {

@@ -3,6 +3,7 @@ use Rattle.std.proofs.Common.{◌≡◌, ℕ, ◌+◌, List, true, false, cond, 
 use Rattle.std.specs.Prelude.{nat_lt}
 use Rattle.std.proofs.lemmas.Bool.Decides.{nat_tests}
 use Rattle.std.proofs.lemmas.List.{length-take, take_all}
+use Rattle.pt_sensors.specs.declared.limits.FileLimits.{FileLimits}
 use Rattle.pt_sensors.specs.RowsOf.{rows_in, rows_of}
 
 fetched : {R : Type 0} (limit : ℕ) (e : R) (f : List ℕ → R) (bytes : List ℕ)
@@ -19,6 +20,6 @@ fetched limit e f bytes =
     ] refl
 
 -- the fault or the rows of the first bytes are those of all of them
-pub rows_of-fetched : (bytes : List ℕ) → rows_of (take 8388609 bytes) ≡ rows_of bytes
+pub rows_of-fetched : (limits : FileLimits) (bytes : List ℕ) → rows_of limits (take (limits.bytes + 1) bytes) ≡ rows_of limits bytes
 unfolding rows_of
-rows_of-fetched bytes = fetched 8388608 _ rows_in bytes
+rows_of-fetched limits bytes = fetched limits.bytes _ (rows_in limits) bytes

@@ -7,6 +7,7 @@ use Rattle.pt_types.specs.declared.graph.Graph.{Graph}
 use Rattle.pt_types.specs.declared.kind.Kind.{Kind}
 use Rattle.pt_types.specs.declared.kind.Kind.TheVariants as kind
 use Rattle.pt_types.specs.declared.rows.Row.{Row}
+use Rattle.pt_sensors.specs.declared.limits.FileLimits.{FileLimits}
 use Rattle.pt_sensors.specs.Late.{is_late_row, late_row}
 use Rattle.pt_sensors.specs.Order.{RowsAreInOrder, RowsInOrder}
 use Rattle.pt_types.specs.Lookups.{kind_of}
@@ -124,13 +125,13 @@ sensor_fits g a file bound (row ∷ rows) sensor h =
 no_rows : (g : Graph) (a : ℕ) (rows : List Row) → rows ≡ [] → Each (FitsRow g a) (rows_until g.until rows)
 no_rows g a rows none = subst (λ z. Each (FitsRow g a) (rows_until g.until z)) (sym none) tt
 
-kind_fits : (contents : Contents) (g : Graph) (a : ℕ) (k : Kind) (rows : List Row) → kind_of g a ≡ k → RowsOfKind contents k rows → InTime g.until k rows → Each (FitsRow g a) (rows_until g.until rows)
-kind_fits contents g a (kind.Sensor file bound) rows is has in_time = sensor_fits g a file bound rows is (none_late bound g.until rows in_time)
-kind_fits contents g a _ rows is has in_time = no_rows g a rows has
+kind_fits : (limits : FileLimits) (contents : Contents) (g : Graph) (a : ℕ) (k : Kind) (rows : List Row) → kind_of g a ≡ k → RowsOfKind limits contents k rows → InTime g.until k rows → Each (FitsRow g a) (rows_until g.until rows)
+kind_fits limits contents g a (kind.Sensor file bound) rows is has in_time = sensor_fits g a file bound rows is (none_late bound g.until rows in_time)
+kind_fits limits contents g a _ rows is has in_time = no_rows g a rows has
 
-pub all_fit : (contents : Contents) (g : Graph) (rows : ℕ → List Row) → ((a : ℕ) → RowsOfKind contents (kind_of g a) (rows a)) → ((a : ℕ) → InTime g.until (kind_of g a) (rows a)) → ((a : ℕ) → RowsAreInOrder (rows a)) → FitRows g (of_run g rows)
-all_fit contents g rows has in_time order = record {
-  fit = λ a. kind_fits contents g a (kind_of g a) (rows a) refl (has a) (in_time a);
+pub all_fit : (limits : FileLimits) (contents : Contents) (g : Graph) (rows : ℕ → List Row) → ((a : ℕ) → RowsOfKind limits contents (kind_of g a) (rows a)) → ((a : ℕ) → InTime g.until (kind_of g a) (rows a)) → ((a : ℕ) → RowsAreInOrder limits (rows a)) → FitRows g (of_run g rows)
+all_fit limits contents g rows has in_time order = record {
+  fit = λ a. kind_fits limits contents g a (kind_of g a) (rows a) refl (has a) (in_time a);
   in_order = λ a. never_falls_filtered (λ (row : Row). nat_le row.time g.until) (rows a) (never_falls None (rows a) (order a).order);
   times = λ a. rises_filtered (λ (row : Row). nat_le row.time g.until) (rows a) (times_rise None (rows a) (order a).order);
 }

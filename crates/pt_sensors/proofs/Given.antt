@@ -7,6 +7,7 @@ use Rattle.csv.specs.declared.parser.State.{State}
 use Rattle.csv.specs.declared.parser.State.TheVariants as st
 use Rattle.csv.specs.Reading.{strip_bom}
 use Rattle.pt_types.specs.declared.rows.Row.{Row}
+use Rattle.pt_sensors.specs.declared.limits.FileLimits.{FileLimits}
 use Rattle.pt_sensors.specs.declared.fault.RowFault.{RowFault}
 use Rattle.pt_sensors.specs.declared.fault.RowFault.TheVariants as fault
 use Rattle.pt_sensors.specs.Numbers.{at_most, limited, field_number, signed}
@@ -101,22 +102,22 @@ unfolding rows_from
 rows_from-in_order zero n before s xs rows h = ended before (next s xs) rows h
 rows_from-in_order (suc left) n before s xs rows h = found left n before (next s xs) rows (rows_from-in_order left) h
 
-headed : (b : Bool) (r : Result (List Row) RowFault) (rows : List Row) → (r ≡ Ok rows → RowsAreInOrder rows) → cond b r (Err fault.Header) ≡ Ok rows → RowsAreInOrder rows
-headed true r rows f h = f h
-headed false r rows f h = absurd cc
+headed : (limits : FileLimits) (b : Bool) (r : Result (List Row) RowFault) (rows : List Row) → (r ≡ Ok rows → RowsAreInOrder limits rows) → cond b r (Err fault.Header) ≡ Ok rows → RowsAreInOrder limits rows
+headed limits true r rows f h = f h
+headed limits false r rows f h = absurd cc
 
-after_header-in_order : (o : Option Read) (rows : List Row) → after_header o ≡ Ok rows → RowsAreInOrder rows
-after_header-in_order None rows h = absurd cc
-after_header-in_order (Some p) rows h =
-    headed (is_header p.0) (rows_from 100000 1 None p.1 p.2) rows (λ h. let b = rows_from-in_order 100000 1 None p.1 p.2 rows h in record { most = b.0; order = b.1 }) h
+after_header-in_order : (limits : FileLimits) (o : Option Read) (rows : List Row) → after_header limits o ≡ Ok rows → RowsAreInOrder limits rows
+after_header-in_order limits None rows h = absurd cc
+after_header-in_order limits (Some p) rows h =
+    headed limits (is_header p.0) (rows_from limits.rows 1 None p.1 p.2) rows (λ h. let b = rows_from-in_order limits.rows 1 None p.1 p.2 rows h in record { most = b.0; order = b.1 }) h
 
-not_too_long : (b : Bool) (r : Result (List Row) RowFault) (rows : List Row) → (r ≡ Ok rows → RowsAreInOrder rows) → cond b (Err fault.TooLong) r ≡ Ok rows → RowsAreInOrder rows
-not_too_long true r rows f h = absurd cc
-not_too_long false r rows f h = f h
+not_too_long : (limits : FileLimits) (b : Bool) (r : Result (List Row) RowFault) (rows : List Row) → (r ≡ Ok rows → RowsAreInOrder limits rows) → cond b (Err fault.TooLong) r ≡ Ok rows → RowsAreInOrder limits rows
+not_too_long limits true r rows f h = absurd cc
+not_too_long limits false r rows f h = f h
 
 -- what is given is in order
-pub in_order : (bytes : List ℕ) (r : Result (List Row) RowFault) → GivesRows (rows_of bytes) r → IfOk r RowsAreInOrder
+pub in_order : (limits : FileLimits) (bytes : List ℕ) (r : Result (List Row) RowFault) → GivesRows (rows_of limits bytes) r → IfOk r (RowsAreInOrder limits)
 unfolding rows_of
-in_order bytes (Err e) h = tt
-in_order bytes (Ok rows) h =
-    not_too_long (nat_lt 8388608 (length bytes)) (rows_in bytes) rows (after_header-in_order (next st.StartRecord (strip_bom bytes)) rows) h
+in_order limits bytes (Err e) h = tt
+in_order limits bytes (Ok rows) h =
+    not_too_long limits (nat_lt limits.bytes (length bytes)) (rows_in limits bytes) rows (after_header-in_order limits (next st.StartRecord (strip_bom bytes)) rows) h

@@ -6,3 +6,5 @@ pub mod Values
 pub mod Loop
 pub mod Fetched
 pub mod Given
+pub mod Counting
+pub mod FewRows

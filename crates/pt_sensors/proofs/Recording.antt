@@ -9,6 +9,8 @@ use Rattle.pt_types.specs.declared.kind.Kind.TheVariants.{Sensor}
 use Rattle.pt_sensors.specs.declared.sensor_rows.SensorRows.{SensorRows}
 use Rattle.pt_sensors.specs.declared.fault.RowFault.{RowFault}
 use Rattle.pt_sensors.specs.declared.fault.RowFault.TheVariants as row
+use Rattle.pt_sensors.specs.declared.limits.FileLimits.{FileLimits}
+use Rattle.pt_sensors.specs.Limits.{file_limits}
 use Rattle.pt_sensors.specs.RowsOf.{rows_of}
 use Rattle.pt_sensors.specs.Order.{RowsAreInOrder}
 use Rattle.pt_semantics.specs.Lists.{Each}
@@ -48,9 +50,9 @@ rows_new xs s a is none = rows_push xs s a ∙ ap₂ (λ front ys. front ++ ys) 
 
 -- an actor has its rows, and none of them is refused
 pub record HasRows (l : LateRows) (contents : Contents) (g : Graph) (a : ℕ) (rows : List Row) : Type 0 where
-  pub kind : RowsOfKind contents (kind_of g a) rows
+  pub kind : RowsOfKind (file_limits g.claims) contents (kind_of g a) rows
   pub passes : RowsPass l g.until (kind_of g a) rows
-  pub order : RowsAreInOrder rows
+  pub order : RowsAreInOrder (file_limits g.claims) rows
 
 -- the entries of the first n actors
 pub record AreFirstRows (l : LateRows) (contents : Contents) (g : Graph) (xs : List SensorRows) (n : ℕ) : Type 0 where
@@ -109,9 +111,9 @@ all_rows l contents g xs n are whole a = by_test (nat_lt a n) refl
         let past : length g.actors ≤ a = omega (arith, le, whole) in
         let none = are.past a le in
         record {
-          kind = subst (λ (x : Actor). RowsOfKind contents x.kind (rows_for xs a)) (sym (get_or_past g.actors a no_actor past)) none;
+          kind = subst (λ (x : Actor). RowsOfKind (file_limits g.claims) contents x.kind (rows_for xs a)) (sym (get_or_past g.actors a no_actor past)) none;
           passes = subst (λ (x : Actor). RowsPass l g.until x.kind (rows_for xs a)) (sym (get_or_past g.actors a no_actor past)) (nobody l (rows_for xs a) none);
-          order = subst RowsAreInOrder (sym none) (record { most = omega arith; order = tt });
+          order = subst (RowsAreInOrder (file_limits g.claims)) (sym none) (record { most = omega arith; order = tt });
         }
 
 pub are_rows : (l : LateRows) (contents : Contents) (g : Graph) (xs : List SensorRows) (n : ℕ) → AreFirstRows l contents g xs n → length g.actors ≤ n → AreRows contents g (rows_for xs)
@@ -124,23 +126,23 @@ pub stand_in_place : (l : LateRows) (contents : Contents) (g : Graph) (xs : List
 stand_in_place l contents g xs n are whole = record { count = are.count ∙ whole; places = are.places }
 
 pub fit_rows : (contents : Contents) (g : Graph) (xs : List SensorRows) (n : ℕ) → AreFirstRows late.Refused contents g xs n → length g.actors ≤ n → FitRows g (of_run g (rows_for xs))
-fit_rows contents g xs n are whole = all_fit contents g (rows_for xs) (λ a. (all_rows late.Refused contents g xs n are whole a).kind) (λ a. (all_rows late.Refused contents g xs n are whole a).passes) (λ a. (all_rows late.Refused contents g xs n are whole a).order)
+fit_rows contents g xs n are whole = all_fit (file_limits g.claims) contents g (rows_for xs) (λ a. (all_rows late.Refused contents g xs n are whole a).kind) (λ a. (all_rows late.Refused contents g xs n are whole a).passes) (λ a. (all_rows late.Refused contents g xs n are whole a).order)
 
 -- a fault of a sensor's file
-pub rows_fail : (contents : Contents) (actor : ℕ) (file : List ℕ) (f : RowFault) (r : SourceCall) → (f ≢ row.Memory → IfSome (contents file) (λ bytes. rows_of bytes ≡ Err f))
-    → CauseOfFile actor (fault_of_sensor actor f) contents file r
-rows_fail contents actor file row.Memory r h = tt
-rows_fail contents actor file row.TooLong r h = (refl, h (λ e. absurd cc))
-rows_fail contents actor file row.Header r h = (refl, h (λ e. absurd cc))
-rows_fail contents actor file (row.Fields n) r h = (refl, h (λ e. absurd cc))
-rows_fail contents actor file (row.Number n) r h = (refl, h (λ e. absurd cc))
-rows_fail contents actor file (row.TimeOrder n) r h = (refl, h (λ e. absurd cc))
-rows_fail contents actor file (row.SeenOrder n) r h = (refl, h (λ e. absurd cc))
-rows_fail contents actor file (row.SeenEarly n) r h = (refl, h (λ e. absurd cc))
-rows_fail contents actor file row.TooManyRows r h = (refl, h (λ e. absurd cc))
+pub rows_fail : (limits : FileLimits) (contents : Contents) (actor : ℕ) (file : List ℕ) (f : RowFault) (r : SourceCall) → (f ≢ row.Memory → IfSome (contents file) (λ bytes. rows_of limits bytes ≡ Err f))
+    → CauseOfFile limits actor (fault_of_sensor actor f) contents file r
+rows_fail limits contents actor file row.Memory r h = tt
+rows_fail limits contents actor file row.TooLong r h = (refl, h (λ e. absurd cc))
+rows_fail limits contents actor file row.Header r h = (refl, h (λ e. absurd cc))
+rows_fail limits contents actor file (row.Fields n) r h = (refl, h (λ e. absurd cc))
+rows_fail limits contents actor file (row.Number n) r h = (refl, h (λ e. absurd cc))
+rows_fail limits contents actor file (row.TimeOrder n) r h = (refl, h (λ e. absurd cc))
+rows_fail limits contents actor file (row.SeenOrder n) r h = (refl, h (λ e. absurd cc))
+rows_fail limits contents actor file (row.SeenEarly n) r h = (refl, h (λ e. absurd cc))
+rows_fail limits contents actor file row.TooManyRows r h = (refl, h (λ e. absurd cc))
 
 -- the file's fault is the actor's
-pub file_fails : (l : LateRows) (contents : Contents) (g : Graph) (actor : ℕ) (file : List ℕ) (bound : ℕ) (f : RecordedFault) (r : SourceCall) → kind_of g actor ≡ Sensor file bound → CauseOfFile actor f contents file r → CauseOfActor l f contents g actor r
+pub file_fails : (l : LateRows) (contents : Contents) (g : Graph) (actor : ℕ) (file : List ℕ) (bound : ℕ) (f : RecordedFault) (r : SourceCall) → kind_of g actor ≡ Sensor file bound → CauseOfFile (file_limits g.claims) actor f contents file r → CauseOfActor l f contents g actor r
 file_fails l contents g actor file bound fault.Memory r kind h = tt
 file_fails l contents g actor file bound (fault.Read named) r kind h = (h.0, (file, bound, kind, h.1))
 file_fails l contents g actor file bound (fault.Sensor named f) r kind h = (h.0, (file, bound, kind, h.1))

@@ -3,6 +3,8 @@ use Rattle.std.specs.Prelude.{◌≡◌, ℕ, List, [], Ok, Err, IfSome}
 use Rattle.pt_types.specs.declared.graph.Graph.{Graph}
 use Rattle.pt_types.specs.declared.rows.Row.{Row}
 use Rattle.pt_types.specs.declared.kind.Kind.TheVariants.{Sensor}
+use Rattle.pt_sensors.specs.declared.limits.FileLimits.{FileLimits}
+use Rattle.pt_sensors.specs.Limits.{file_limits}
 use Rattle.pt_sensors.specs.RowsOf.{rows_of}
 use Rattle.pt_types.specs.Lookups.{kind_of}
 use Rattle.pt_sensors.specs.declared.recorded_fault.LateRows.{LateRows}
@@ -13,12 +15,12 @@ use Rattle.pt_sensors.specs.Asked.{ReadFails}
 use Rattle.pt_io.specs.Calls.{Contents, SourceCall}
 use Rattle.pt_sensors.specs.Recorded.{IsLateRow}
 
--- why the file with this name gave no rows
-abbrev pub CauseOfFile : ℕ → RecordedFault → Contents → List ℕ → SourceCall → Type 0
-CauseOfFile actor fault.Memory contents file r = Unit {0}
-CauseOfFile actor (fault.Read named) contents file r = (named ≡ actor) × ReadFails [] file r
-CauseOfFile actor (fault.Sensor named f) contents file r = (named ≡ actor) × IfSome (contents file) (λ bytes. rows_of bytes ≡ Err f)
-CauseOfFile actor (fault.Late named row seen limit) contents file r = ⊥
+-- why the file with this name gave no rows within these limits
+abbrev pub CauseOfFile : FileLimits → ℕ → RecordedFault → Contents → List ℕ → SourceCall → Type 0
+CauseOfFile limits actor fault.Memory contents file r = Unit {0}
+CauseOfFile limits actor (fault.Read named) contents file r = (named ≡ actor) × ReadFails [] file r
+CauseOfFile limits actor (fault.Sensor named f) contents file r = (named ≡ actor) × IfSome (contents file) (λ bytes. rows_of limits bytes ≡ Err f)
+CauseOfFile limits actor (fault.Late named row seen limit) contents file r = ⊥
 
 -- the fault is that of the first late row of these rows
 abbrev pub IsLateFault : RecordedFault → ℕ → List Row → ℕ → ℕ → Type 0
@@ -33,6 +35,6 @@ IsSensorWith g actor Fact = (file : List ℕ) × (bound : ℕ) × (kind_of g act
 abbrev pub CauseOfActor : LateRows → RecordedFault → Contents → Graph → ℕ → SourceCall → Type 0
 CauseOfActor l fault.Memory contents g actor r = Unit {0}
 CauseOfActor l (fault.Read named) contents g actor r = (named ≡ actor) × IsSensorWith g actor (λ file bound. ReadFails [] file r)
-CauseOfActor l (fault.Sensor named f) contents g actor r = (named ≡ actor) × IsSensorWith g actor (λ file bound. IfSome (contents file) (λ bytes. rows_of bytes ≡ Err f))
+CauseOfActor l (fault.Sensor named f) contents g actor r = (named ≡ actor) × IsSensorWith g actor (λ file bound. IfSome (contents file) (λ bytes. rows_of (file_limits g.claims) bytes ≡ Err f))
 CauseOfActor l (fault.Late named row seen limit) contents g actor r =
-    (named ≡ actor) × (l ≡ late.Refused) × IsSensorWith g actor (λ file bound. (rows : List Row) × IfSome (contents file) (λ bytes. rows_of bytes ≡ Ok rows) × IsLateRow rows g.until bound row seen limit)
+    (named ≡ actor) × (l ≡ late.Refused) × IsSensorWith g actor (λ file bound. (rows : List Row) × IfSome (contents file) (λ bytes. rows_of (file_limits g.claims) bytes ≡ Ok rows) × IsLateRow rows g.until bound row seen limit)

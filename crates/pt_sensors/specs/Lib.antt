@@ -1,9 +1,11 @@
+pub mod Counts
 pub mod Faults
 pub mod Asked
 pub mod Recorded
 pub mod Places
 pub mod Files
 pub mod Late
+pub mod Limits
 pub mod Lines
 pub mod Numbers
 pub mod Order

@@ -1,6 +1,7 @@
 -- What holds of the rows of a file.
 use Rattle.std.specs.Prelude.{◌<◌, ◌≤◌, List, [], ◌∷◌, length, Option, Some, None}
 use Rattle.pt_types.specs.declared.rows.Row.{Row}
+use Rattle.pt_sensors.specs.declared.limits.FileLimits.{FileLimits}
 
 -- a row is later than the row before it, if there is one, and is not seen earlier
 abbrev pub RowFollows : Option Row → Row → Type 0
@@ -19,7 +20,7 @@ abbrev pub RowsInOrder : Option Row → List Row → Type 0
 RowsInOrder before [] = Unit {0}
 RowsInOrder before (row ∷ rows) = IsRow before row × RowsInOrder (Some row) rows
 
--- the rows of a file
-pub record RowsAreInOrder (rows : List Row) : Type 0 where
-  pub most : length rows ≤ 100000
+-- the rows of a file with these limits
+pub record RowsAreInOrder (limits : FileLimits) (rows : List Row) : Type 0 where
+  pub most : length rows ≤ limits.rows
   pub order : RowsInOrder None rows

@@ -4,7 +4,9 @@ use Rattle.pt_types.specs.declared.graph.Graph.{Graph}
 use Rattle.pt_types.specs.declared.rows.Row.{Row}
 use Rattle.pt_types.specs.declared.kind.Kind.{Kind}
 use Rattle.pt_types.specs.declared.kind.Kind.TheVariants.{Sensor}
+use Rattle.pt_sensors.specs.declared.limits.FileLimits.{FileLimits}
 use Rattle.pt_sensors.specs.declared.fault.RowFault.{RowFault}
+use Rattle.pt_sensors.specs.Limits.{file_limits}
 use Rattle.pt_sensors.specs.RowsOf.{rows_of}
 use Rattle.pt_sensors.specs.Late.{late_row}
 use Rattle.pt_types.specs.Lookups.{kind_of}
@@ -15,14 +17,14 @@ use Rattle.pt_sensors.specs.declared.recorded_fault.RecordedFault.TheVariants as
 use Rattle.pt_sensors.specs.Asked.{ReadFails, files_before}
 use Rattle.pt_io.specs.Calls.{Contents, SourceCall}
 
--- a sensor has the rows of its file, and other kinds have none
-abbrev pub RowsOfKind : Contents → Kind → List Row → Type 0
-RowsOfKind contents (Sensor file bound) rows = IfSome (contents file) (λ bytes. rows_of bytes ≡ Ok rows)
-RowsOfKind contents _ rows = rows ≡ []
+-- a sensor has the rows of its file, within these limits, and other kinds have none
+abbrev pub RowsOfKind : FileLimits → Contents → Kind → List Row → Type 0
+RowsOfKind limits contents (Sensor file bound) rows = IfSome (contents file) (λ bytes. rows_of limits bytes ≡ Ok rows)
+RowsOfKind limits contents _ rows = rows ≡ []
 
 -- each actor has its rows
 abbrev pub AreRows : Contents → Graph → (ℕ → List Row) → Type 0
-AreRows contents g rows = (a : ℕ) → RowsOfKind contents (kind_of g a) (rows a)
+AreRows contents g rows = (a : ℕ) → RowsOfKind (file_limits g.claims) contents (kind_of g a) (rows a)
 
 -- no row of a sensor up to the horizon is late
 abbrev pub InTime : ℕ → Kind → List Row → Type 0
@@ -40,7 +42,7 @@ AllPass l g rows = (a : ℕ) → RowsPass l g.until (kind_of g a) (rows a)
 
 -- each of the first n actors has rows that pass
 abbrev pub HaveRows : LateRows → Contents → Graph → ℕ → Type 0
-HaveRows l contents g n = (a : ℕ) → a < n → (rows : List Row) × RowsOfKind contents (kind_of g a) rows × RowsPass l g.until (kind_of g a) rows
+HaveRows l contents g n = (a : ℕ) → a < n → (rows : List Row) × RowsOfKind (file_limits g.claims) contents (kind_of g a) rows × RowsPass l g.until (kind_of g a) rows
 
 -- the actor is the first that gives no rows: a sensor whose file has this fault
 pub record SensorFails (l : LateRows) (contents : Contents) (g : Graph) (actor : ℕ) (f : RowFault) : Type 0 where
@@ -48,7 +50,7 @@ pub record SensorFails (l : LateRows) (contents : Contents) (g : Graph) (actor :
   pub file : List ℕ
   pub bound : ℕ
   pub sensor : kind_of g actor ≡ Sensor file bound
-  pub fails : IfSome (contents file) (λ bytes. rows_of bytes ≡ Err f)
+  pub fails : IfSome (contents file) (λ bytes. rows_of (file_limits g.claims) bytes ≡ Err f)
 
 -- the actor is the first that gives no rows: a sensor whose file could not be read
 pub record SensorUnread (l : LateRows) (contents : Contents) (g : Graph) (actor : ℕ) (others : List (List ℕ)) (r : SourceCall) : Type 0 where
@@ -74,7 +76,7 @@ pub record SensorLate (contents : Contents) (g : Graph) (actor row seen limit : 
   pub bound : ℕ
   pub sensor : kind_of g actor ≡ Sensor file bound
   pub rows : List Row
-  pub read : IfSome (contents file) (λ bytes. rows_of bytes ≡ Ok rows)
+  pub read : IfSome (contents file) (λ bytes. rows_of (file_limits g.claims) bytes ≡ Ok rows)
   pub is_late : IsLateRow rows g.until bound row seen limit
 
 -- why the sensors of a graph gave no rows; the names in `others` were asked for before their files

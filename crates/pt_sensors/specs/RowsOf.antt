@@ -6,6 +6,7 @@ use Rattle.csv.specs.declared.parser.State.{State}
 use Rattle.csv.specs.declared.parser.State.TheVariants as st
 use Rattle.pt_sensors.specs.Rows.{◌>>=◌, row_of, is_header}
 use Rattle.pt_types.specs.declared.rows.Row.{Row}
+use Rattle.pt_sensors.specs.declared.limits.FileLimits.{FileLimits}
 use Rattle.pt_sensors.specs.declared.fault.RowFault.{RowFault}
 use Rattle.pt_sensors.specs.declared.fault.RowFault.TheVariants as fault
 
@@ -33,16 +34,17 @@ rows_from zero n before s xs = ends (next s xs)
 rows_from (suc left) n before s xs = goes_on n before (λ row. rows_from left (n + 1) (Some row)) (next s xs)
 
 -- the header, and then the rows
-abbrev pub after_header : Option Read → Result (List Row) RowFault
-after_header None = Err fault.Header
-after_header (Some p) = if is_header p.0 then rows_from 100000 1 None p.1 p.2 else Err fault.Header
+abbrev pub after_header : FileLimits → Option Read → Result (List Row) RowFault
+after_header limits None = Err fault.Header
+after_header limits (Some p) = if is_header p.0 then rows_from limits.rows 1 None p.1 p.2 else Err fault.Header
 
 -- the rows of a text that is not too long
-abbrev pub rows_in : List ℕ → Result (List Row) RowFault
-rows_in bytes = after_header (next st.StartRecord (strip_bom bytes))
+abbrev pub rows_in : FileLimits → List ℕ → Result (List Row) RowFault
+rows_in limits bytes = after_header limits (next st.StartRecord (strip_bom bytes))
 
-unfoldable pub rows_of : List ℕ → Result (List Row) RowFault
-rows_of bytes = if nat_lt 8388608 (length bytes) then Err fault.TooLong else rows_in bytes
+-- the rows of a text, within these limits
+unfoldable pub rows_of : FileLimits → List ℕ → Result (List Row) RowFault
+rows_of limits bytes = if nat_lt limits.bytes (length bytes) then Err fault.TooLong else rows_in limits bytes
 
 -- a reader's result is the one that the definition gives, unless memory ran out
 abbrev pub GivesRows : {A : Type 0} → Result A RowFault → Result A RowFault → Type 0

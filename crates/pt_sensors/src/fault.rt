@@ -8,7 +8,7 @@ use std::alloc::AllocError;
 pub enum RowFault {
     /// Out of memory.
     Memory,
-    /// The file has more than 8,388,608 bytes.
+    /// The file has more bytes than its limits allow.
     TooLong,
     /// There is no first record, or it is not `time`, `seen`, `value`.
     Header,
@@ -22,7 +22,7 @@ pub enum RowFault {
     SeenOrder(u32),
     /// The row is seen earlier than its time.
     SeenEarly(u32),
-    /// A record follows the first 100,000 rows, and these have no fault.
+    /// A record follows as many rows as the limits allow, and these have no fault.
     TooManyRows,
 }
 

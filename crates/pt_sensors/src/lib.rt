@@ -5,12 +5,15 @@
 //! is `RowsAreInOrder` in `specs/Order.antt`. Each file is fetched, read and, if late rows are
 //! refused, checked for late rows, before the next is fetched. Reading stops at the first fault.
 //!
+//! The limits of a file follow from the claims of the graph, by `file_limits`.
+//!
 //! Read first: `recorded` with `specs/Recorded.antt`, then `read_rows`.
 #![tactic(auto)]
 
 mod fault;
 mod file;
 mod late;
+mod limits;
 mod lines;
 mod numbers;
 mod reader;
@@ -20,10 +23,11 @@ mod sensor_rows;
 
 pub use fault::RowFault;
 pub use late::first_late;
+pub use limits::{FileLimits, file_limits};
 pub use lines::{fault_line, late_line};
 pub use numbers::limited;
 pub use pt_types::Row;
-pub use reader::{MOST_SENSOR_BYTES, advance, cells, read_rows, reader_of};
+pub use reader::{advance, cells, read_rows, reader_of};
 pub use recorded_fault::{LateRows, RecordedFault};
 pub use recorded_rows::recorded;
 pub use sensor_rows::SensorRows;

@@ -9,17 +9,12 @@ ghost use Rattle.pt_sensors.specs.Rows.{IsPlain, Finds, bytes_left, three, cells
 ghost use Rattle.pt_sensors.specs.RowsOf.{next, rows_from, rows_of, GivesRows};
 
 use crate::fault::RowFault;
+use crate::limits::FileLimits;
 use crate::numbers::{limited, signed};
 use csv::{ByteRecord, Reader, ReaderBuilder};
 use pt_tags::{List, Memory};
 use pt_types::{MOST_TIME, Row};
 use std::alloc::Global;
-
-/// The most bytes of a sensor file.
-pub const MOST_SENSOR_BYTES: usize = 8_388_608;
-
-/// The most rows of a sensor file.
-pub const MOST_ROWS: u32 = 100_000;
 
 /// The latest reading at which a row may be seen, in microseconds.
 const MOST_SEEN: u64 = 10_000_000_000_000_000;
@@ -30,33 +25,33 @@ const LEAST_BYTES: usize = 6;
 /// Room for the bytes of a usual record, so that csv reads it in one step.
 const LINE_BYTES: usize = 128;
 
-/// The rows of a sensor file, or its first fault.
+/// The rows of a sensor file within these limits, or its first fault.
 ///
 /// Faults are looked for in the order in which `RowFault` lists them: first those of the file and its header,
 /// then row by row. Times are whole microseconds. (The format is this project's own choice.)
 ///
 /// The lines `time,seen,value`, `50,55,7` and `60,60,8` give two rows: 7 at time 50, seen at reading 55, and 8 at time 60, seen
 /// at reading 60. If the second is `60,59,8` the fault is `SeenEarly(2)`: no row is seen before its time.
-pub fn read_rows(alloc: Global, bytes: &[u8]) -> Result<List<Row>, RowFault>
-    ensures rows { GivesRows (rows_of bytes.now) result }
-    ensures order { IfOk result RowsAreInOrder }
+pub fn read_rows(alloc: Global, limits: FileLimits, bytes: &[u8]) -> Result<List<Row>, RowFault>
+    ensures rows { GivesRows (rows_of limits bytes.now) result }
+    ensures order { IfOk result (RowsAreInOrder limits) }
 {
-    read(alloc, bytes)
+    read(alloc, limits, bytes)
 }
 
 /// The rows of a sensor file, or its first fault, from the records that csv reads.
 #[tactic(auto, unfolding(crate::specs::RowsOf::rows_of))]
-fn read(alloc: Global, bytes: &[u8]) -> Result<List<Row>, RowFault>
-    ensures { GivesRows (rows_of bytes.now) result }
+fn read(alloc: Global, limits: FileLimits, bytes: &[u8]) -> Result<List<Row>, RowFault>
+    ensures { GivesRows (rows_of limits bytes.now) result }
 {
-    if bytes.len() > MOST_SENSOR_BYTES {
+    if bytes.len() > limits.bytes {
         return Err(RowFault::TooLong);
     }
     let mut reader = reader_of(alloc, bytes);
     let mut line = ByteRecord::with_capacity(alloc, LINE_BYTES, 4)?;
     if advance(&mut reader, &mut line)? && is_header(&line) {
-        let room = room_for(alloc, bytes.len());
-        rows(room, &mut reader, &mut line)
+        let room = room_for(alloc, limits.rows, bytes.len());
+        rows(limits.rows, room, &mut reader, &mut line)
     } else {
         Err(RowFault::Header)
     }
@@ -84,37 +79,38 @@ pub fn advance(reader: &mut Reader<&[u8]>, line: &mut ByteRecord) -> Result<bool
     reader.read_byte_record(line).map_err(|_| Memory)
 }
 
-/// A list with room for all rows of a text of this number of bytes, so that it never has to move; without room if memory for that
-/// is refused. Most of the room may never be used, and then it costs nothing.
-fn room_for(alloc: Global, bytes: usize) -> Vec<Row>
+/// A list with room for all rows, at most `most`, of a text of this number of bytes, so that it never has to move; without room if
+/// memory for that is refused. Most of the room may never be used, and then it costs nothing.
+fn room_for(alloc: Global, most: u32, bytes: usize) -> Vec<Row>
     ensures { result.items ≡ [] }
 {
-    let most = (bytes / LEAST_BYTES + 1).min(MOST_ROWS as usize);
-    match Vec::with_capacity(alloc, most) {
+    let room = (bytes / LEAST_BYTES + 1).min(most as usize);
+    match Vec::with_capacity(alloc, room) {
         Ok(rows) => rows,
         Err(_) => Vec::new(alloc),
     }
 }
 
-/// The rows that follow, in a list that has none yet; the header was read.
+/// The rows that follow, at most `most`, in a list that has none yet; the header was read.
 fn rows(
+    most: u32,
     room: Vec<Row>,
     reader: &mut Reader<&[u8]>,
     line: &mut ByteRecord,
 ) -> Result<List<Row>, RowFault>
     requires plain { IsPlain (λ r. Some r.now) reader.old }
     requires empty { room.items ≡ [] }
-    ensures { GivesRows (rows_from 100000 1 None (reader_state reader.old)
+    ensures { GivesRows (rows_from most 1 None (reader_state reader.old)
         (bytes_left (λ r. Some r.now) reader.old)) result }
 {
     let mut rows = room;
     let mut before = None;
-    for number in 1..MOST_ROWS + 1 {
+    for index in 0..most {
         let found = advance(reader, line)?;
         if !found {
             return Ok(List::new(rows));
         }
-        let row = row(number, before, line)?;
+        let row = row(index + 1, before, line)?;
         if rows.push(row).is_err() {
             return Err(RowFault::Memory);
         }

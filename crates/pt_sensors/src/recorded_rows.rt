@@ -1,8 +1,9 @@
 //! The rows of all sensors of a graph.
 
-ghost use Rattle.std.specs.Prelude.{◌≡◌, ◌<◌, ◌≤◌, ◌^◌, [], IfOk, IfErr, length};
+ghost use Rattle.std.specs.Prelude.{◌≡◌, ◌<◌, ◌≤◌, ◌^◌, [], IfOk, IfErr, OnOk, length};
 ghost use Rattle.pt_io.specs.Calls.{reading};
 ghost use Rattle.pt_semantics.specs.Lists.{Each};
+ghost use Rattle.pt_types.specs.Limits.{greatest_claims};
 ghost use Rattle.pt_types.specs.Lookups.{kind_of};
 ghost use Rattle.pt_semantics.specs.Rows.{FitRows};
 ghost use Rattle.pt_sensors.specs.Order.{RowsAreInOrder};
@@ -10,11 +11,14 @@ ghost use Rattle.pt_sensors.specs.Listed.{rows_for, IsOfActors};
 ghost use Rattle.pt_sensors.specs.Asked.{Asks, AsksBy, AsksFiles, AsksUpTo, file_of, sensor_files};
 ghost use Rattle.pt_sensors.specs.Recorded.{AllPass, AreRows, CauseOfRows, RowsPass, RowsOfKind};
 ghost use Rattle.pt_sensors.specs.declared.recorded_fault.LateRows.TheVariants.{Refused};
+ghost use Rattle.pt_sensors.specs.Counts.{LeavesCount};
 ghost use Rattle.pt_sensors.specs.Files.{CauseOfActor};
+ghost use Rattle.pt_sensors.specs.Limits.{file_limits};
 ghost use Rattle.pt_sensors.specs.Places.{StandInPlace, of_run};
 
 use crate::SensorRows;
 use crate::file::{judged, rows_of_file};
+use crate::limits::file_limits;
 use crate::recorded_fault::{LateRows, RecordedFault};
 use pt_io::Source;
 use pt_tags::List;
@@ -29,16 +33,21 @@ fn rows_of_actor<S: Source>(
     actor: u32,
     late: LateRows,
 ) -> Result<List<Row>, RecordedFault>
-    requires { actor < length graph.now.actors }
+    requires actor { actor < length graph.now.actors }
+    requires claims { graph.now.claims ≤ greatest_claims }
     ensures rows { IfOk result (λ rows.
-        RowsOfKind (S.contents source.old) (kind_of graph.now actor) rows) }
+        RowsOfKind (file_limits graph.now.claims) (S.contents source.old)
+        (kind_of graph.now actor) rows) }
     ensures passes { IfOk result (λ rows.
         RowsPass late graph.now.until (kind_of graph.now actor) rows) }
-    ensures order { IfOk result RowsAreInOrder }
+    ensures order { IfOk result (RowsAreInOrder (file_limits graph.now.claims)) }
     ensures fault { IfErr result (λ f. CauseOfActor late f (S.contents source.old) graph.now actor
         (reading S.Source source.old source.new)) }
     ensures keeps { S.contents source.new ≡ S.contents source.old }
     ensures grows { S.faults source.old ≤ S.faults source.new }
+    ensures quiet { OnOk result (S.faults source.new ≡ S.faults source.old) }
+    ensures counted { IfErr result (λ f.
+        LeavesCount f (S.faults source.old) (S.faults source.new)) }
     ensures asks { IfOk result (λ rows.
         Asks (S.asked source.old) (S.asked source.new) (file_of (kind_of graph.now actor))) }
     ensures asks_by { IfErr result (λ f.
@@ -47,14 +56,16 @@ fn rows_of_actor<S: Source>(
     let Kind::Sensor { file, bound } = &graph.actors.as_slice()[actor as usize].kind else {
         return Ok(List::new(Vec::new(alloc)));
     };
-    let rows = rows_of_file(alloc, source, actor, file.as_str())?;
+    let limits = file_limits(graph.claims);
+    let rows = rows_of_file(alloc, source, limits, actor, file.as_str())?;
     judged(late, actor, rows.as_slice(), *bound, graph.until)?;
     Ok(rows)
 }
 
 /// The rows of all sensors of a graph, read in graph order: one entry for each actor, empty if it is not a sensor.
 ///
-/// If late rows are refused, the rows of each sensor are checked before the next file is fetched.
+/// The limits of each file follow from the most claims of a platform. If late rows are refused, the rows of each sensor are
+/// checked before the next file is fetched.
 ///
 /// If actors 0 and 2 of three are sensors with files `s.csv` and `u.csv`, `s.csv` is fetched first, and entry 1 has no rows. If
 /// its first row is 7 at time 50, seen at reading 61, and its bound is 10, the fault is `Late` with actor 0, row 1, seen 61
@@ -65,7 +76,8 @@ pub fn recorded<S: Source>(
     graph: &Graph,
     late: LateRows,
 ) -> Result<Vec<SensorRows>, RecordedFault>
-    requires { length graph.now.actors < 2 ^ 32 }
+    requires actors { length graph.now.actors < 2 ^ 32 }
+    requires claims { graph.now.claims ≤ greatest_claims }
     ensures rows { IfOk result (λ all.
         AreRows (S.contents source.old) graph.now (rows_for all.items)) }
     ensures passes { IfOk result (λ all. AllPass late graph.now (rows_for all.items)) }
@@ -82,6 +94,9 @@ pub fn recorded<S: Source>(
         Asks (S.asked source.old) (S.asked source.new) (sensor_files graph.now.actors)) }
     ensures keeps { S.contents source.new ≡ S.contents source.old }
     ensures grows { S.faults source.old ≤ S.faults source.new }
+    ensures quiet { OnOk result (S.faults source.new ≡ S.faults source.old) }
+    ensures counted { IfErr result (λ f.
+        LeavesCount f (S.faults source.old) (S.faults source.new)) }
 {
     let count = graph.actors.as_slice().len();
     let mut all = Vec::new(alloc);

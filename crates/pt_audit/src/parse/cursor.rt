@@ -13,12 +13,12 @@ pub struct LogAt {
     /// The place of the first byte of the line `log`.
     pub place: usize,
     /// The number of that line, from 1.
-    pub line: u32,
+    pub line: u64,
 }
 
 /// Where the first line `log` of a file is, if a line is `log`.
 pub fn log_at(bytes: &[u8]) -> Option<LogAt>
-    requires { length bytes.now + 1 < 2 ^ 32 }
+    requires { length bytes.now + 1 < 2 ^ 64 }
     ensures { MatchOption result (at_log (text_lines bytes.now) ≡ None)
         (λ at. IsLogAt bytes.now at.place at.line) }
 {
@@ -39,7 +39,7 @@ pub fn log_at(bytes: &[u8]) -> Option<LogAt>
 #[derive(Clone, Copy)]
 pub struct TurnText<'a> {
     /// The number of the first line in the file, from 1.
-    pub line: u32,
+    pub line: u64,
     pub text: &'a [u8],
 }
 
@@ -47,7 +47,7 @@ pub struct TurnText<'a> {
 #[derive(Drop)]
 pub struct Cursor<'a> {
     rest: &'a [u8],
-    line: u32,
+    line: u64,
 }
 
 impl<'a> Model for Cursor<'a> {
@@ -58,13 +58,13 @@ impl<'a> Model for Cursor<'a> {
 
     ghost view = { λ c. blocks_from c.line (text_lines c.rest.now) };
 
-    ghost invariant = { λ c. c.line + length c.rest.now < 2 ^ 32 };
+    ghost invariant = { λ c. c.line + length c.rest.now < 2 ^ 64 };
 }
 
 impl<'a> Cursor<'a> {
     /// The blocks of a text whose first line has this number.
-    pub fn new(rest: &'a [u8], line: u32) -> Cursor<'a>
-        requires { line + length rest.now < 2 ^ 32 }
+    pub fn new(rest: &'a [u8], line: u64) -> Cursor<'a>
+        requires { line + length rest.now < 2 ^ 64 }
         ensures { result ≡ blocks_from line (text_lines rest.now) }
     {
         Cursor { rest, line }
@@ -91,13 +91,12 @@ impl<'a> Cursor<'a> {
 #[derive(Clone, Copy)]
 struct Extent {
     len: usize,
-    lines: u32,
+    lines: u64,
 }
 
 /// How long the first block of a text is.
 fn block_extent(bytes: &[u8]) -> Extent
-    requires some { 0 < length bytes.now }
-    requires short { length bytes.now < 2 ^ 32 }
+    requires { 0 < length bytes.now }
     ensures { IsFirstBlock bytes.now result.len result.lines }
 {
     let mut len = line_len(bytes);

@@ -1,10 +1,11 @@
-use Rattle.std.proofs.Common.{◌≡◌, ◌≤◌, List, None, ap, length, subst, sym, ◌∙◌}
+use Rattle.std.proofs.Common.{◌≡◌, ◌<◌, ◌≤◌, ◌^◌, List, None, ap, arith, length, subst, sym, ◌∙◌}
 use Rattle.std.specs.Prelude.{◌↔◌}
 use Rattle.std.specs.List.{All}
 use Rattle.pt_types.specs.declared.air.Air.{Air}
 use Rattle.pt_air.specs.declared.row.AirRow.{AirRow}
 use Rattle.pt_air.specs.AirOf.{air_with}
 use Rattle.pt_semantics.specs.RecordedTimes.{KeepsBounds}
+use Rattle.pt_sensors.proofs.FewRows.{few_rows}
 use Rattle.pt_air.proofs.Given.{rows_of-rows}
 use Rattle.pt_air.proofs.Keeping.{breach-None}
 use Rattle.pt_air.proofs.Sizes.{lags_len, small_lags, small_transits, transits_len}
@@ -12,8 +13,9 @@ use Rattle.pt_air.proofs.reader.read_air.Goals as goal
 
 pub air_with-requires : goal.air_with-requires
 air_with-requires c =
-    subst (λ (rows : List AirRow). length rows ≤ 100000) (sym c.as_slice.ensures)
-    (rows_of-rows c.args.graph.now c.args.bytes.now c.in_ok-rows.rows c.in_ok-rows.ensures).few
+    let rows = rows_of-rows c.args.graph.now c.args.bytes.now c.in_ok-rows.rows c.in_ok-rows.ensures in
+    let limit = few_rows c.args.graph.now.claims c.requires in
+    subst (λ (rows : List AirRow). length rows < 2 ^ 32) (sym c.as_slice.ensures) (omega (arith, rows.few, limit))
 
 pub returns-clause-lengths : goal.returns-clause-lengths
 returns-clause-lengths c =

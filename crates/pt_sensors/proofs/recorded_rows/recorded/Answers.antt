@@ -2,9 +2,11 @@ use Rattle.std.proofs.Common.{◌≡◌, ◌<◌, ◌≤◌, ◌+◌, ◌∙◌,
 use Rattle.std.proofs.lemmas.Result.{err_from_is_err_and}
 use Rattle.pt_io.specs.Calls.{SourceCall, reading}
 use Rattle.pt_sensors.specs.declared.sensor_rows.SensorRows.{SensorRows}
+use Rattle.pt_sensors.specs.Limits.{file_limits}
 use Rattle.pt_sensors.specs.Recorded.{RowsOfKind}
 use Rattle.pt_types.specs.Lookups.{kind_of}
 use Rattle.pt_sensors.proofs.Asking.{asks_all, asks_by_files, asks_files, asks_up_to}
+use Rattle.pt_sensors.proofs.Counting.{count_from}
 use Rattle.pt_sensors.proofs.Recording.{AreFirstRows, first_rows_more, fit_rows, later}
 use Rattle.pt_sensors.proofs.recorded_rows.recorded.Goals as goal
 
@@ -31,6 +33,12 @@ returns-in_err-rows-clause-asks_up_to g c =
     (asks_up_to c.args.late (g.S.Source.contents c.loop-number.source) c.args.graph.now c.loop-number.number _ reading (g.S.Source.asked c.args.source.now) (g.S.Source.asked c.loop-number.source) (g.S.Source.asked c.rows_of_actor.new.source) within c.loop-number.invariant.asks
     c.in_err-rows.ensures.fault c.in_err-rows.ensures.asks_by)
 
+pub returns-in_err-rows-clause-counted : goal.returns-in_err-rows-clause-counted
+returns-in_err-rows-clause-counted g c =
+    let p = err_from_is_err_and c.from_residual.result c.from_residual.ensures.1 in
+    rw (p.1, p.2)
+    (count_from _ (g.S.Source.faults c.args.source.now) (g.S.Source.faults c.loop-number.source) (g.S.Source.faults c.rows_of_actor.new.source) c.loop-number.invariant.quiet c.in_err-rows.ensures.counted)
+
 pub loop-number-preserved : goal.loop-number-preserved
 loop-number-preserved g c =
     let contents = g.S.Source.contents c.args.source.now in
@@ -40,12 +48,13 @@ loop-number-preserved g c =
     let items = rw pushed at c.push.ensures.items in
     let entry : SensorRows = record { actor = c.loop-number.number; rows = c.in_ok-rows.rows } in
     let within : c.loop-number.number < length c.args.graph.now.actors = search rules in
-    let kind = subst (λ t. RowsOfKind t (kind_of graph n) c.in_ok-rows.rows) c.loop-number.invariant.keeps c.in_ok-rows.ensures.rows in
+    let kind = subst (λ t. RowsOfKind (file_limits graph.claims) t (kind_of graph n) c.in_ok-rows.rows) c.loop-number.invariant.keeps c.in_ok-rows.ensures.rows in
     record {
       rows = subst (λ xs. AreFirstRows c.args.late contents graph xs (c.loop-number.number + 1)) (sym items)
           (first_rows_more c.args.late contents graph c.loop-number.all.items n entry c.loop-number.invariant.rows refl within (record { kind = kind; passes = c.in_ok-rows.ensures.passes; order = c.in_ok-rows.ensures.order }));
       keeps = c.rows_of_actor.ensures.keeps ∙ c.loop-number.invariant.keeps;
       grows = omega (arith, c.loop-number.invariant.grows, c.rows_of_actor.ensures.grows);
+      quiet = c.in_ok-rows.ensures.quiet ∙ c.loop-number.invariant.quiet;
       asks = asks_files graph n (g.S.Source.asked c.args.source.now) (g.S.Source.asked c.loop-number.source) (g.S.Source.asked c.rows_of_actor.new.source) within c.loop-number.invariant.asks c.in_ok-rows.ensures.asks;
     }
 

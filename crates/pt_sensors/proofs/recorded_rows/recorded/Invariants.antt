@@ -8,5 +8,6 @@ invariant-loop-number g l = record {
   rows : AreFirstRows l.late (g.S.Source.contents l.fn.source) l.graph l.all.items l.number;
   keeps : g.S.Source.contents l.source ≡ g.S.Source.contents l.fn.source;
   grows : g.S.Source.faults l.fn.source ≤ g.S.Source.faults l.source;
+  quiet : g.S.Source.faults l.source ≡ g.S.Source.faults l.fn.source;
   asks : Asks (g.S.Source.asked l.fn.source) (g.S.Source.asked l.source) (files_before l.graph l.number);
 }
