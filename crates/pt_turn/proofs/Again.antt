@@ -29,6 +29,7 @@ use Rattle.pt_turn.specs.declared.platform.Platform.TheInside.{Inside}
 use Rattle.pt_turn.specs.Making.{IsRecordedTurn}
 use Rattle.pt_turn.specs.Platforms.{IsPlatform, IsRoomy, PlatformView, platform_graph, messages_of, raised_to, view_of}
 use Rattle.pt_turn.specs.Running.{Ran, ShowsLong}
+use Rattle.pt_turn.specs.TakenEnds.{MarksEnds}
 use Rattle.pt_turn.specs.Turned.{FaultsIfLast, IsEnough, IsTurned, StaysThere, is_late}
 use Rattle.pt_turn.proofs.Onward.{ends_as, late_as, ran_on}
 use Rattle.pt_turn.proofs.Readiness.{basis_of, both_rooms, still_runs}
@@ -75,8 +76,8 @@ is_done_as p v plan reading r most dones messages new history lists fault handed
     let both : (room : Room) × IsRoomy p room × IsEnough reading (length dones) (length messages) most room = both_rooms p p.room (IsEnough reading (length dones) (length messages) most) is.room (subst (λ (w : PlatformView). MatchOption w.room ⊥ (IsEnough reading (length dones) (length messages) most)) (sym view) room) in
     is_done p plan both.0 r most dones messages new history lists fault handed now same both.1 both.2.done kept sound sensors all_rows read claims empty outbox sent fits
 
-abbrev pub after : Inside → Fields → History → Lists → Option TurnFault → Option ℕ → ℕ → Inside
-after p fields history lists fault next row = record { plan = p.plan; number = p.number; closing = p.closing; progress = record { fields = fields; history = history; lists = lists; fault = fault; next_row = row }; room = None; next = next }
+abbrev pub after : Inside → Fields → History → List Bool → Lists → Option TurnFault → Option ℕ → ℕ → Inside
+after p fields history ended lists fault next row = record { plan = p.plan; number = p.number; closing = p.closing; progress = record { fields = fields; history = history; ended = ended; lists = lists; fault = fault; next_row = row }; room = None; next = next }
 
 shows_long : (g : Graph) (new : Fields) (taken : List OnLink) (r : ℕ) (ending : TurnEnd) → new.reading ≡ Some r → ShowsEnd g r new ending → ending ≡ LongEnd → ShowsLong g (state_of new taken)
 shows_long g new taken r ending read full is =
@@ -86,8 +87,8 @@ shows_long g new taken r ending read full is =
 taken_is : (p : Inside) (history : History) (turn : Turn) → history.turns ≡ kept_with p.progress.history.turns turn → messages_of history.turns ≡ messages_of p.progress.history.turns ++ turn.taken
 taken_is p history turn is = ap messages_of is ∙ messages_more p.progress.history.turns turn
 
-pub is_again : (p : Inside) (r most : ℕ) (dones : List Done) (messages : List OnLink) (new : Fields) (history : History) (lists : Lists) (fault : Option TurnFault) (next : Option ℕ) (row : ℕ) (handed now : List Task) → IsPlatform p → p.progress.fault ≡ None → IsDone p r most dones messages new history lists fault handed now → MatchOption next (Unit {0}) (IsNextReading (platform_graph p) p.number (state_of new (messages_of history.turns))) → NoneSeenBefore row (left_in new.sensors.items) → IsPlatform (after p new history lists fault next row)
-is_again p r most dones messages new history lists fault next row handed now is on d is_next is_row =
+pub is_again : (p : Inside) (r most : ℕ) (dones : List Done) (messages : List OnLink) (new : Fields) (history : History) (ended : List Bool) (lists : Lists) (fault : Option TurnFault) (next : Option ℕ) (row : ℕ) (handed now : List Task) → IsPlatform p → p.progress.fault ≡ None → IsDone p r most dones messages new history lists fault handed now → MatchOption next (Unit {0}) (IsNextReading (platform_graph p) p.number (state_of new (messages_of history.turns))) → NoneSeenBefore row (left_in new.sensors.items) → MarksEnds (length (platform_graph p).links) ended (messages_of history.turns) → IsPlatform (after p new history ended lists fault next row)
+is_again p r most dones messages new history ended lists fault next row handed now is on d is_next is_row marks =
     let k = d.kept in
     let turn : Turn = turn_of r dones k.lists in
     let rows : rows_at_sensors new.sensors.items ≡ rows_at_sensors p.progress.fields.sensors.items = λ i a. d.all_rows a i in
@@ -104,6 +105,7 @@ is_again p r most dones messages new history lists fault next row handed now is 
       ran = subst (λ z. Ran (platform_graph p) (level_of (arc_value p.plan).ranks) p.number z history.turns (state_of new (messages_of history.turns)) fault) (sym rows)
           (subst (λ ts. Ran (platform_graph p) (level_of (arc_value p.plan).ranks) p.number (rows_at_sensors p.progress.fields.sensors.items) ts (state_of new (messages_of history.turns)) fault) (sym k.turns)
           (subst (λ ms. Ran (platform_graph p) (level_of (arc_value p.plan).ranks) p.number (rows_at_sensors p.progress.fields.sensors.items) (kept_with p.progress.history.turns turn) (state_of new ms) fault) (sym (taken_is p history turn k.turns)) ran));
+      ended = marks;
       empty = d.empty;
       sent = d.sent;
       room = tt;
@@ -118,9 +120,9 @@ record TurnPart (g : Graph) (level : ℕ → ℕ) (i : ℕ) (s : State) (turn : 
   last : FaultsIfLast fault (IsLast g s turn.last late is.ready)
 
 -- the turn that was made
-pub is_turned : (p : Inside) (r reading most : ℕ) (dones : List Done) (messages : List OnLink) (new : Fields) (history : History) (lists : Lists) (fault : Option TurnFault) (row : ℕ) (handed now : List Task) → r ≡ raised_to p.progress.fields.reading reading → IsDone p r most dones messages new history lists fault handed now
-    → (made : IsTurned (view_of p) (view_of (after p new history lists fault None row)) reading most dones messages) × (now ≡ handed ++ made.turn.claimed) × StaysThere (view_of p) (view_of (after p new history lists fault None row))
-is_turned p r reading most dones messages new history lists fault row handed now raised d =
+pub is_turned : (p : Inside) (r reading most : ℕ) (dones : List Done) (messages : List OnLink) (new : Fields) (history : History) (ended : List Bool) (lists : Lists) (fault : Option TurnFault) (row : ℕ) (handed now : List Task) → r ≡ raised_to p.progress.fields.reading reading → IsDone p r most dones messages new history lists fault handed now
+    → (made : IsTurned (view_of p) (view_of (after p new history ended lists fault None row)) reading most dones messages) × (now ≡ handed ++ made.turn.claimed) × StaysThere (view_of p) (view_of (after p new history ended lists fault None row))
+is_turned p r reading most dones messages new history ended lists fault row handed now raised d =
     let k = d.kept in
     let g : Graph = platform_graph p in
     let level : ℕ → ℕ = level_of (arc_value p.plan).ranks in

@@ -19,7 +19,7 @@ use Rattle.pt_semantics.specs.Platform.{State}
 use Rattle.pt_turn.specs.Takes.Taken.{Arrive, Basis}
 use Rattle.pt_turn.specs.Turned.{MayCome}
 
-each_front : {X : Type 0} (P : X → Type 0) (xs ys : List X) → Each P (xs ++ ys) → Each P xs
+pub each_front : {X : Type 0} (P : X → Type 0) (xs ys : List X) → Each P (xs ++ ys) → Each P xs
 each_front P [] ys h = tt
 each_front P (x ∷ xs) ys h = (h.0, each_front P xs ys h.1)
 

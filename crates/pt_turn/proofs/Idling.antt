@@ -143,6 +143,7 @@ knows_next p next is known = record {
   closing = is.closing;
   claims = is.claims;
   ran = is.ran;
+  ended = is.ended;
   empty = is.empty;
   sent = is.sent;
   room = roomy_still p (Some next) p.room is.room;

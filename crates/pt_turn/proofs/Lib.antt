@@ -27,6 +27,7 @@ pub mod Readiness
 pub mod Rooms
 pub mod Sending
 pub mod Shares
+pub mod TakenEnds
 pub mod Takes
 pub mod Turns
 pub mod Wider

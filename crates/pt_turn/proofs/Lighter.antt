@@ -17,6 +17,7 @@ use Rattle.pt_turn.specs.declared.platform.Platform.TheInside.{Inside}
 use Rattle.pt_turn.specs.Gone.{FirstHasGone, last_sent}
 use Rattle.pt_turn.specs.Platforms.{IsPlatform, IsRoomy, platform_graph, messages_of, view_of}
 use Rattle.pt_turn.specs.Running.{Ran}
+use Rattle.pt_turn.specs.TakenEnds.{MarksEnds}
 use Rattle.pt_turn.proofs.Coming.{on_append}
 use Rattle.pt_turn.proofs.Leaving.{on_other, on_own}
 use Rattle.pt_turn.proofs.Sending.{AreFront, MayFollow, ran_more, taken_still}
@@ -126,6 +127,7 @@ is_lighter p l m outbox history is w =
       claims = is.claims;
       ran = subst (λ ms. Ran (platform_graph p) (level_of (arc_value p.plan).ranks) p.number (rows_at_sensors p.progress.fields.sensors.items) history.turns (state_of (record p.progress.fields { outbox = outbox }) ms) p.progress.fault) (sym taken)
           (subst (λ ts. Ran (platform_graph p) (level_of (arc_value p.plan).ranks) p.number (rows_at_sensors p.progress.fields.sensors.items) ts (state_of (record p.progress.fields { outbox = outbox }) (messages_of p.progress.history.turns)) p.progress.fault) (sym w.turns) ran);
+      ended = subst (MarksEnds (length (platform_graph p).links) p.progress.ended) (sym taken) is.ended;
       empty = is.empty;
       sent = omega (arith, w.len, sent, is.sent);
       room = room_still p l m outbox history p.room w is.room;

@@ -114,6 +114,7 @@ is_platform p sensors a k d next_row row is may set_is no_later before =
       ran = subst (λ z. Ran g level p.number z p.progress.history.turns (state_at (view_of (with_sensors p sensors next_row))) p.progress.fault) (sym rows)
           (subst (λ z. Ran g level p.number (followed (rows_at_sensors ss) (just a row)) p.progress.history.turns z p.progress.fault) (sym (state_grown p sensors a next_row row new))
           (ran_grown g level p.number (rows_at_sensors ss) a row p.progress.history.turns (state_at (view_of p)) p.progress.fault may.may.home (λ q read. later q (may.may.next.read q read)) is.ran));
+      ended = is.ended;
       empty = is.empty;
       sent = is.sent;
       room = tt;
@@ -174,6 +175,7 @@ is_same p sensors same is =
       closing = is.closing;
       claims = is.claims;
       ran = subst (λ (ss : List Sensor). Ran g (level_of (arc_value p.plan).ranks) p.number (rows_at_sensors ss) p.progress.history.turns (record s { left = left_in ss }) p.progress.fault) (sym same) is.ran;
+      ended = is.ended;
       empty = is.empty;
       sent = is.sent;
       room = still_roomy p sensors p.room same is.room;

@@ -27,9 +27,10 @@ use Rattle.pt_turn.specs.declared.platform.Platform.TheInside.{Inside}
 use Rattle.pt_turn.specs.Growing.{AreEnough, AreWider, FieldsMeet, HistoryIsWider, HistoryMeets, ListsAreWider, ListsMeet}
 use Rattle.pt_turn.specs.Platforms.{IsPlatform, IsRoomy, platform_graph, messages_of, raised_to}
 use Rattle.pt_turn.specs.Running.{Ran}
+use Rattle.pt_turn.specs.TakenEnds.{MarksEnds}
 
 abbrev pub wider : Inside → Fields → History → Lists → Option Room → Inside
-wider p fields history lists room = record { plan = p.plan; number = p.number; closing = p.closing; progress = record { fields = fields; history = history; lists = lists; fault = p.progress.fault; next_row = p.progress.next_row }; room = room; next = p.next }
+wider p fields history lists room = record { plan = p.plan; number = p.number; closing = p.closing; progress = record { fields = fields; history = history; ended = p.progress.ended; lists = lists; fault = p.progress.fault; next_row = p.progress.next_row }; room = room; next = p.next }
 
 same_state : (old new : Fields) (taken : List OnLink) → AreWider old new → state_of new taken ≡ state_of old taken
 same_state old new taken w = λ i. record {
@@ -67,6 +68,7 @@ is_wider p fields history lists room is f h l roomy = record {
   ran = subst (λ v. Ran (platform_graph p) (level_of (arc_value p.plan).ranks) p.number (rows_at_sensors v.items) history.turns (state_of fields (messages_of history.turns)) p.progress.fault) (sym f.sensors)
       (subst (λ ts. Ran (platform_graph p) (level_of (arc_value p.plan).ranks) p.number (rows_at_sensors p.progress.fields.sensors.items) ts (state_of fields (messages_of ts)) p.progress.fault) (sym h.turns)
       (subst (λ s. Ran (platform_graph p) (level_of (arc_value p.plan).ranks) p.number (rows_at_sensors p.progress.fields.sensors.items) p.progress.history.turns s p.progress.fault) (sym (same_state p.progress.fields fields (messages_of p.progress.history.turns) f)) is.ran));
+  ended = subst (λ ts. MarksEnds (length (platform_graph p).links) p.progress.ended (messages_of ts)) (sym h.turns) is.ended;
   empty = record {
     posted = l.posted.items ∙ is.empty.posted;
     rows = l.rows.items ∙ is.empty.rows;

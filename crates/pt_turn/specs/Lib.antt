@@ -21,5 +21,6 @@ pub mod Running
 pub mod Sharing
 pub mod Starting
 pub mod Steps
+pub mod TakenEnds
 pub mod Takes
 pub mod Turned

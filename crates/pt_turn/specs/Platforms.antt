@@ -24,6 +24,7 @@ use Rattle.pt_turn.specs.declared.fault.TurnFault.{TurnFault}
 use Rattle.pt_turn.specs.declared.room.Room.{Room}
 use Rattle.pt_turn.specs.declared.platform.Platform.TheInside.{Inside}
 use Rattle.pt_turn.specs.Running.{Ran}
+use Rattle.pt_turn.specs.TakenEnds.{MarksEnds}
 
 -- platform `number` of a plan: its sensors with the rows that it opened with, its recorded turns, the parts of the state
 -- after them, why no turn may follow, and what turn it has memory for
@@ -114,6 +115,7 @@ pub record IsPlatform (p : Inside) : Type 0 where
   pub closing : IsClosing (platform_graph p) p.number p.closing
   pub claims : p.progress.fields.claims ≤ (platform_graph p).claims
   pub ran : Ran (platform_graph p) (level_of (arc_value p.plan).ranks) p.number (rows_at_sensors p.progress.fields.sensors.items) p.progress.history.turns (state_of p.progress.fields (messages_of p.progress.history.turns)) p.progress.fault
+  pub ended : MarksEnds (length (platform_graph p).links) p.progress.ended (messages_of p.progress.history.turns)
   pub empty : AreEmpty p.progress.lists
   pub sent : length p.progress.fields.outbox.items ≤ p.progress.history.room.sent
   pub room : MatchOption p.room (Unit {0}) (IsRoomy p)

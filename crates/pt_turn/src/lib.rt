@@ -39,6 +39,7 @@ mod starting_states;
 pub mod state;
 mod steps;
 pub mod take;
+mod taken_ends;
 mod turn_fault;
 mod turn_of;
 

@@ -10,6 +10,8 @@ ghost use Rattle.pt_turn.specs.declared.claim_step.TurnEnd.TheVariants.{Late};
 ghost use Rattle.pt_turn.specs.Faults.{IsFaultOf, SomeIsLate};
 ghost use Rattle.pt_turn.specs.Steps.{AreEmpty, NoneSeenBefore, turn_of};
 ghost use Rattle.pt_turn.specs.Making.{CanKeep, IsRecordedTurn, IsReady};
+ghost use Rattle.pt_turn.specs.Platforms.{messages_of};
+ghost use Rattle.pt_turn.specs.TakenEnds.{MarksEnds};
 
 use crate::fault::TurnFault;
 use crate::kept_turn::keep;
@@ -43,6 +45,8 @@ pub fn make(
     requires no_fault { progress.old.fault ≡ None }
     requires next_row { NoneSeenBefore progress.old.next_row
         (left_in progress.old.fields.sensors.items) }
+    requires ended { MarksEnds (length setup.now.plan.now.graph.links) progress.old.ended
+        (messages_of progress.old.history.turns) }
     ensures kept { IsRecordedTurn setup.now.plan.now basis reading most dones.now messages.now
         progress.old.fields progress.new.fields progress.old.history.turns
         progress.new.history.turns tasks.old.tasks tasks.new.tasks progress.new.fault }
@@ -60,6 +64,8 @@ pub fn make(
     ensures sent { progress.new.history.room.sent ≡ progress.old.history.room.sent }
     ensures next_row { NoneSeenBefore progress.new.next_row
         (left_in progress.new.fields.sensors.items) }
+    ensures ended { MarksEnds (length setup.now.plan.now.graph.links) progress.new.ended
+        (messages_of progress.new.history.turns) }
 {
     let last = progress.fields.reading;
     let ending = turn(
@@ -72,6 +78,7 @@ pub fn make(
         &mut progress.lists,
         &mut progress.next_row,
     );
+    progress.ended.mark(progress.lists.taken.as_slice());
     match ending {
         TurnEnd::On => keep(
             &mut progress.history,

@@ -11,6 +11,7 @@ use crate::close::closing_reading;
 use crate::platform::Platform;
 use crate::progress::Progress;
 use crate::reserved::Reserved;
+use crate::taken_ends::TakenEnds;
 use crate::{Lists, open_fields};
 use pt_history::History;
 use pt_offsets::Plan;
@@ -39,6 +40,7 @@ impl Platform {
     {
         let fields = open_fields(alloc, &plan, platform, rows)?;
         let closing = closing_reading(&plan, platform);
+        let ended = TakenEnds::none(alloc, plan.graph().links.as_slice().len())?;
         Ok(Platform {
             plan,
             number: platform,
@@ -46,6 +48,7 @@ impl Platform {
             progress: Progress {
                 fields,
                 history: History::new(alloc),
+                ended,
                 lists: Lists {
                     posted: Vec::new(alloc),
                     rows: Vec::new(alloc),

@@ -3,6 +3,7 @@
 use crate::Lists;
 use crate::fault::TurnFault;
 use crate::state::Fields;
+use crate::taken_ends::TakenEnds;
 use pt_history::History;
 use pt_offsets::Plan;
 
@@ -11,6 +12,7 @@ use pt_offsets::Plan;
 pub struct Progress {
     pub fields: Fields,
     pub history: History,
+    pub ended: TakenEnds,
     /// What the current turn has done; empty between turns.
     pub lists: Lists,
     pub fault: Option<TurnFault>,

@@ -1,9 +1,11 @@
-use Rattle.std.proofs.Common.{◌++◌, sym, ap, subst}
+use Rattle.std.proofs.Common.{◌++◌, length, sym, ap, subst}
 use Rattle.pt_turn.specs.declared.claim_step.TurnEnd.{TurnEnd}
 use Rattle.pt_turn.specs.Steps.{took_late, turn_of}
 use Rattle.pt_turn.specs.Fields.State.{state_of}
 use Rattle.pt_turn.specs.Faults.{IsFaultOf}
+use Rattle.pt_turn.specs.Platforms.{messages_of}
 use Rattle.pt_turn.proofs.Lateness.{turn_late}
+use Rattle.pt_turn.proofs.TakenEnds.{are_flagged, marks_turn}
 use Rattle.pt_turn.proofs.made_turn.make.Goals as goal
 
 pub keep_last-progress-requires-clause-late : goal.keep_last-progress-requires-clause-late
@@ -32,3 +34,16 @@ returns-in_default-clause-kept g c = record {
   turns = c.keep_last-progress.ensures.turns;
   tasks = c.keep_last-progress.ensures.tasks;
 }
+
+pub mark-requires : goal.mark-requires
+mark-requires g c = record {
+  links = are_flagged c.args.setup.now.plan.now.graph g.basis c.args.progress.now.ended (messages_of c.args.progress.now.history.turns) c.args.messages.now c.turn-ending.new.lists.taken.items c.as_slice.result.now (took_late c.turn-ending.result) c.requires.0.arrive c.turn-ending.ensures.made.taken c.requires.1.1.1.1.1 c.as_slice.ensures.value;
+}
+
+pub returns-in-On-clause-ended : goal.returns-in-On-clause-ended
+returns-in-On-clause-ended g c =
+    marks_turn (length c.args.setup.now.plan.now.graph.links) c.args.progress.now.ended c.mark.new.self c.args.progress.now.history.turns c.keep.new.history.turns (turn_of c.args.reading c.args.dones.now c.turn-ending.new.lists) c.as_slice.result.now c.requires.1.1.1.1.1 c.mark.ensures.len c.mark.ensures.flags c.as_slice.ensures.value c.keep.ensures.turns
+
+pub returns-in_default-clause-ended : goal.returns-in_default-clause-ended
+returns-in_default-clause-ended g c =
+    marks_turn (length c.args.setup.now.plan.now.graph.links) c.args.progress.now.ended c.mark.new.self c.args.progress.now.history.turns c.keep_last-progress.new.history.turns (turn_of c.args.reading c.args.dones.now c.turn-ending.new.lists) c.as_slice.result.now c.requires.1.1.1.1.1 c.mark.ensures.len c.mark.ensures.flags c.as_slice.ensures.value c.keep_last-progress.ensures.turns

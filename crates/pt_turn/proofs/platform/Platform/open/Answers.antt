@@ -1,5 +1,6 @@
-use Rattle.std.proofs.Common.{◌≡◌, ◌≤◌, [], None, List, length, refl, ap, subst, sym, arith}
+use Rattle.std.proofs.Common.{◌≡◌, ◌≤◌, [], None, List, length, refl, ap, subst, sym, ◌∙◌, arith}
 use Rattle.std.specs.Arc.{arc_value}
+use Rattle.pt_types.specs.declared.graph.Graph.{Graph}
 use Rattle.pt_semantics.specs.Paced.{IsClosing}
 use Rattle.pt_semantics.specs.Platform.{opened}
 use Rattle.pt_semantics.specs.Rows.{FitRows}
@@ -10,6 +11,7 @@ use Rattle.pt_turn.specs.Fields.Sensors.{AreSensors}
 use Rattle.pt_turn.specs.Fields.State.{rows_at_sensors, state_of, IsSound}
 use Rattle.pt_turn.specs.Platforms.{messages_of}
 use Rattle.pt_turn.specs.Running.{Ran}
+use Rattle.pt_turn.specs.TakenEnds.{MarksEnds}
 use Rattle.pt_turn.proofs.Rooms.{no_room}
 use Rattle.pt_turn.proofs.platform.Platform.open.Goals as goal
 
@@ -35,9 +37,11 @@ invariant_of-result c =
         leads = start;
         read = e.reading;
       });
+      ended = subst (λ (ts : List Turn). MarksEnds (length (arc_value c.args.plan).graph.links) c.in_ok-ended.ended (messages_of ts)) (sym turns)
+          (subst (λ n. MarksEnds n c.in_ok-ended.ended []) (ap length (c.as_slice.ensures ∙ ap (λ (g : Graph). g.links) c.graph.ensures.value ∙ ap (λ (z : Parts). z.graph.links) c.deref-3.ensures)) c.in_ok-ended.ensures);
       empty = record { posted = c.new-2.ensures.items; rows = c.new-3.ensures.items; taken = c.new-4.ensures.items; claimed = c.new-5.ensures.items };
       sent = omega (arith, none);
-      room = no_room _ c.none.result c.none.ensures;
+      room = no_room _ c.none-2.result c.none-2.ensures;
       next = tt;
       next_row = λ r a lt. absurd (omega (arith, lt));
     }
