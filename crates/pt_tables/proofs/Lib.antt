@@ -4,9 +4,6 @@ pub mod Placed
 pub mod Written
 pub mod Gathering
 pub mod Parts
-pub mod Works
 pub mod Out
-pub mod Short
 pub mod TurnLists
 pub mod ShortNames
-pub mod Puts

@@ -1,12 +1,14 @@
--- Bytes put by way of a page, one put after another.
-use Rattle.std.proofs.Common.{◌≡◌, ℕ, ◌+◌, ◌≤◌, List, [], ◌∷◌, ◌++◌, Option, Some, None, length, length-append, take, drop, slice_get, append-nil, sym, subst, ap, ◌∙◌, arith}
-use Rattle.std.specs.Prelude.{flat_map}
-use Rattle.std.proofs.lemmas.Grind.{common_steps, flat_map-append}
+-- Bytes that are put, one put after another.
+use Rattle.std.proofs.Common.{◌≡◌, ℕ, ◌+◌, ◌≤◌, List, [], ◌∷◌, ◌++◌, Option, Some, None, length, length-append, take, drop, slice_get, append-nil, refl, sym, subst, ap, ◌∙◌, arith}
+use Rattle.std.specs.Prelude.{Err, flat_map, Ok, OnErr, OnOk, Result}
+use Rattle.std.proofs.lemmas.Grind.{flat_map-append}
 use Rattle.std.proofs.lemmas.List.{append_assoc, take-append-drop, take-append-le}
 use Rattle.std.proofs.Math.Seq.{take-append-add}
+use Rattle.pt_io.specs.Calls.{writing}
 use Rattle.pt_io.specs.Causes.{Appends, AppendsPart, Rose}
+use Rattle.pt_io.specs.declared.sink.Sink as sink
 use Rattle.pt_history.proofs.InTurn.{drop_next, take_next}
-use Rattle.pt_tables.specs.Putting.{AreOut}
+use Rattle.pt_tables.specs.Putting.{IsPartPut, IsPut}
 
 pub appends_twice : (a b c : Option (List ℕ)) (xs ys : List ℕ) → Appends a b xs → Appends b c ys → Appends a c (xs ++ ys)
 appends_twice None b c xs ys p q = tt
@@ -31,67 +33,62 @@ part_more (Some w) b xs ys (n, within, is) = (
   is ∙ ap (λ l. Some (w ++ l)) (sym (take-append-le n xs ys within)),
 )
 
--- nothing is put: bytes are appended to the page
-pub out_on : (a b : Option (List ℕ)) (page next bytes more : List ℕ) → AreOut a b page bytes → page ++ more ≡ next → AreOut a b next (bytes ++ more)
-out_on a b page next bytes more out is = record {
-  front = out.front;
-  all = ap (λ l. out.front ++ l) (sym is) ∙ sym (append_assoc out.front page more) ∙ ap (λ l. l ++ more) out.all;
-  put = out.put;
-}
+appends_none : (a : Option (List ℕ)) → Appends a a []
+appends_none None = tt
+appends_none (Some w) = ap (λ l. Some l) (sym (append-nil w))
 
--- more is put by way of the page
-pub out_more : (a b c : Option (List ℕ)) (page next bytes more : List ℕ) → AreOut a b page bytes → AreOut b c next (page ++ more) → AreOut a c next (bytes ++ more)
-out_more a b c page next bytes more out then_out = record {
-  front = out.front ++ then_out.front;
-  all =
-      append_assoc out.front then_out.front next
-      ∙ ap (λ l. out.front ++ l) then_out.all
-      ∙ sym (append_assoc out.front page more)
-      ∙ ap (λ l. l ++ more) out.all;
-  put = appends_twice a b c out.front then_out.front out.put then_out.put;
-}
+-- a line of a text comes before the rest of it
+pub joined : (front rest text : List ℕ) (n : ℕ) → front ++ rest ≡ text → (front ++ take n rest) ++ drop n rest ≡ text
+joined front rest text n h = append_assoc front (take n rest) (drop n rest) ∙ ap (λ r. front ++ r) (take-append-drop n rest) ∙ h
 
--- the page is put
-pub all_out : (a b c : Option (List ℕ)) (page bytes : List ℕ) → AreOut a b page bytes → Appends b c page → Appends a c bytes
-all_out a b c page bytes out put = subst (Appends a c) out.all (appends_twice a b c out.front page out.put put)
+-- nothing was put
+pub put_none : {K : Type 0} (k : sink.Ghosts K) (a : K) → IsPut (writing k a a) []
+put_none k a = record { all = appends_none (k.written a); uncounted = refl }
 
--- a later put failed
-pub part_out : (a b c : Option (List ℕ)) (page bytes more : List ℕ) → AreOut a b page bytes → AppendsPart b c (page ++ more) → AppendsPart a c (bytes ++ more)
-part_out a b c page bytes more out part =
-    subst (AppendsPart a c) (sym (append_assoc out.front page more) ∙ ap (λ l. l ++ more) out.all) (part_next a b c out.front (page ++ more) out.put part)
+-- a put of these bytes failed, so that those were not put
+pub part_before : {K : Type 0} (k : sink.Ghosts K) (a b : K) (xs ys : List ℕ) → IsPartPut (writing k a b) xs → IsPartPut (writing k a b) (xs ++ ys)
+part_before k a b xs ys part = record { part = part_more (k.written a) (k.written b) xs ys part.part; failed = part.failed; grows = part.grows }
 
--- a count that rose later rose
-pub rose_later : (first before now : ℕ) → first ≤ before → Rose before now → Rose first now
-rose_later first before now grew rose = grind (arith, common_steps)
+module _ {K : Type 0} (k : sink.Ghosts K) (a b c : K) where
+  -- these bytes were put, and then those
+  pub put_then : (xs ys : List ℕ) → IsPut (writing k a b) xs → IsPut (writing k b c) ys → IsPut (writing k a c) (xs ++ ys)
+  put_then xs ys first next = record {
+    all = appends_twice (k.written a) (k.written b) (k.written c) xs ys first.all next.all;
+    uncounted = next.uncounted ∙ first.uncounted;
+  }
 
--- the lines of some items are the first of those of all
-pub first_lines : {X : Type 0} (f : X → List ℕ) (xs : List X) (n : ℕ) (text : List ℕ) → (text ++ flat_map f (take n xs)) ++ flat_map f (drop n xs) ≡ text ++ flat_map f xs
-first_lines f xs n text =
-    append_assoc text (flat_map f (take n xs)) (flat_map f (drop n xs))
-    ∙ ap (λ l. text ++ l) (sym (flat_map-append f (take n xs) (drop n xs)) ∙ ap (flat_map f) (take-append-drop n xs))
+  -- a put of those failed
+  pub part_then : (xs ys : List ℕ) → IsPut (writing k a b) xs → IsPartPut (writing k b c) ys → IsPartPut (writing k a c) (xs ++ ys)
+  part_then xs ys first next = record {
+    part = part_next (k.written a) (k.written b) (k.written c) xs ys first.all next.part;
+    failed = subst (λ n. Rose n (k.faults c)) first.uncounted next.failed;
+    grows = subst (λ n. n ≤ k.faults c) first.uncounted next.grows;
+  }
 
--- and the lines of one more item
+-- the lines of one more item
 pub one_more_lines : {X : Type 0} (f : X → List ℕ) (xs : List X) (n : ℕ) (x : X) → slice_get xs n ≡ Some x → flat_map f (take (n + 1) xs) ≡ flat_map f (take n xs) ++ f x
 one_more_lines f xs n x at = ap (flat_map f) (take_next xs n x at) ∙ flat_map-append f (take n xs) (x ∷ []) ∙ ap (λ l. flat_map f (take n xs) ++ l) (append-nil (f x))
 
--- the lines of one more item are out,
-pub next_out : {X : Type 0} (f : X → List ℕ) (xs : List X) (n : ℕ) (x : X) (a b c : Option (List ℕ)) (page next text : List ℕ) → slice_get xs n ≡ Some x → AreOut a b page (text ++ flat_map f (take n xs)) → AreOut b c next (page ++ f x)
-    → AreOut a c next (text ++ flat_map f (take (n + 1) xs))
-next_out f xs n x a b c page next text at out more =
-    let lines : flat_map f (take (n + 1) xs) ≡ flat_map f (take n xs) ++ f x = one_more_lines f xs n x at in
-    subst (AreOut a c next) (append_assoc text (flat_map f (take n xs)) (f x) ∙ ap (λ l. text ++ l) (sym lines))
-    (out_more a b c page next (text ++ flat_map f (take n xs)) (f x) out more)
+-- the lines of some items, of the next one, and of those after it
+all_lines_at : {X : Type 0} (f : X → List ℕ) (xs : List X) (n : ℕ) (x : X) → slice_get xs n ≡ Some x → flat_map f (take n xs) ++ (f x ++ flat_map f (drop (n + 1) xs)) ≡ flat_map f xs
+all_lines_at f xs n x at =
+    ap (λ rest. flat_map f (take n xs) ++ flat_map f rest) (sym (drop_next xs n x at))
+    ∙ sym (flat_map-append f (take n xs) (drop n xs))
+    ∙ ap (flat_map f) (take-append-drop n xs)
 
--- or a put of them failed
-pub next_part : {X : Type 0} (f : X → List ℕ) (xs : List X) (n : ℕ) (x : X) (a b c : Option (List ℕ)) (page text : List ℕ) → slice_get xs n ≡ Some x → AreOut a b page (text ++ flat_map f (take n xs)) → AppendsPart b c (page ++ f x)
-    → AppendsPart a c (text ++ flat_map f xs)
-next_part f xs n x a b c page text at out part =
-    let more : AppendsPart a c ((text ++ flat_map f (take n xs)) ++ f x) = part_out a b c page (text ++ flat_map f (take n xs)) (f x) out part in
-    let rest : List ℕ = flat_map f (drop (n + 1) xs) in
-    subst (AppendsPart a c)
-    (append_assoc (text ++ flat_map f (take n xs)) (f x) rest ∙ ap (λ l. (text ++ flat_map f (take n xs)) ++ flat_map f l) (sym (drop_next xs n x at)) ∙ first_lines f xs n text)
-    (part_more a c ((text ++ flat_map f (take n xs)) ++ f x) rest more)
+module _ {K : Type 0} (k : sink.Ghosts K) (a b c : K) {X : Type 0} (f : X → List ℕ) (xs : List X) (n : ℕ) (x : X) (at : slice_get xs n ≡ Some x) where
+  -- the lines of one more item were put,
+  pub next_put : IsPut (writing k a b) (flat_map f (take n xs)) → IsPut (writing k b c) (f x) → IsPut (writing k a c) (flat_map f (take (n + 1) xs))
+  next_put before next = subst (IsPut (writing k a c)) (sym (one_more_lines f xs n x at)) (put_then k a b c (flat_map f (take n xs)) (f x) before next)
 
--- the put of the page failed
-pub all_part : (a b c : Option (List ℕ)) (page bytes : List ℕ) → AreOut a b page bytes → AppendsPart b c page → AppendsPart a c bytes
-all_part a b c page bytes out part = subst (AppendsPart a c) out.all (part_next a b c out.front page out.put part)
+  -- or a put of them failed
+  pub next_part : IsPut (writing k a b) (flat_map f (take n xs)) → IsPartPut (writing k b c) (f x) → IsPartPut (writing k a c) (flat_map f xs)
+  next_part before next =
+      let rest : List ℕ = flat_map f (drop (n + 1) xs) in
+      subst (IsPartPut (writing k a c)) (all_lines_at f xs n x at)
+      (part_then k a b c (flat_map f (take n xs)) (f x ++ rest) before (part_before k b c (f x) rest next))
+
+-- the count of faults never falls
+pub grew : {K T E : Type 0} (k : sink.Ghosts K) (a b : K) (r : Result T E) (bytes : List ℕ) → OnOk r (IsPut (writing k a b) bytes) → OnErr r (IsPartPut (writing k a b) bytes) → k.faults a ≤ k.faults b
+grew k a b (Ok done) bytes put part = omega (arith, put.uncounted)
+grew k a b (Err fault) bytes put part = part.grows

@@ -1,5 +1,5 @@
 -- The members of a turn's lists, among those of all turns.
-use Rattle.std.proofs.Common.{◌≡◌, ℕ, zero, suc, ◌+◌, ◌-◌, ◌<◌, List, [], ◌∷◌, ◌++◌, Some, length, length-append, take, refl, subst, sym, ap, ◌∙◌, arith}
+use Rattle.std.proofs.Common.{◌≡◌, ℕ, zero, suc, ◌+◌, ◌-◌, ◌<◌, List, [], ◌∷◌, ◌++◌, Some, length, length-append, take, refl, sym, ap, ◌∙◌, arith}
 use Rattle.std.specs.Prelude.{flat_map, option_map, slice_get, unwrap_or}
 use Rattle.std.proofs.lemmas.Option.{slice_get_within}
 use Rattle.pt_semantics.proofs.Lookups.{none_some, same_some}
@@ -17,17 +17,6 @@ pub is_there : {X : Type 0} (xs : List X) (n : ℕ) → n < length xs → (x : X
 is_there [] n lt = absurd (omega (arith, lt))
 is_there (x ∷ xs) zero lt = (x, refl)
 is_there (x ∷ xs) (suc n) lt = is_there xs n (omega (arith, lt))
-
--- a list of no items
-pub none_in : {X : Type 0} (xs : List X) → length xs ≡ 0 → xs ≡ []
-none_in [] zero_long = refl
-none_in (x ∷ xs) zero_long = absurd (omega (arith, zero_long))
-
--- a list of one item
-pub only_one : {X : Type 0} (xs : List X) (x : X) → length xs ≡ 1 → slice_get xs 0 ≡ Some x → xs ≡ x ∷ []
-only_one [] x single at = absurd (omega (arith, single))
-only_one (y ∷ []) x single at = ap (λ z. z ∷ []) (same_some y x at)
-only_one (y ∷ z ∷ xs) x single at = absurd (omega (arith, single))
 
 count_more : {X Y : Type 0} (f : X → List Y) (xs : List X) (n : ℕ) (x : X) → slice_get xs n ≡ Some x → length (flat_map f (take (n + 1) xs)) ≡ length (flat_map f (take n xs)) + length (f x)
 count_more {X} f xs n x at =
@@ -89,14 +78,6 @@ posted_item turns n from end k lt start stop inside =
       },
     )
 
--- the first result of a turn
-pub first_posted : (turns : List Turn) (n from end : ℕ) → n < length turns → from ≡ length (flat_map (λ (turn : Turn). turn.posted) (take n turns)) → end ≡ length (flat_map (λ (turn : Turn). turn.posted) (take (n + 1) turns)) → 0 < end - from
-    → (done : Done) × IsPosted turns n 0 from done
-first_posted turns n from end lt start stop some =
-    let (done, is) = posted_item turns n from end 0 lt start stop some in
-    let here : from + 0 ≡ from = omega arith in
-    (done, subst (λ place. IsPosted turns n 0 place done) here is)
-
 -- the claims of a turn
 pub claimed_more : (turns : List Turn) (n : ℕ) → n < length turns → length (flat_map (λ (turn : Turn). turn.claimed) (take (n + 1) turns)) ≡ length (flat_map (λ (turn : Turn). turn.claimed) (take n turns)) + length (claimed_in turns n)
 claimed_more turns n lt = part_more (λ (turn : Turn). turn.claimed) turns n lt
@@ -121,14 +102,6 @@ claimed_item turns n from end k lt start stop inside =
         mark = λ mark is. same_some (mark_of task) mark (ap (option_map mark_of) (sym flat) ∙ is);
       },
     )
-
--- the first claim of a turn
-pub first_claimed : (turns : List Turn) (n from end : ℕ) → n < length turns → from ≡ length (flat_map (λ (turn : Turn). turn.claimed) (take n turns)) → end ≡ length (flat_map (λ (turn : Turn). turn.claimed) (take (n + 1) turns)) → 0 < end - from
-    → (task : Task) × IsClaimed turns n 0 from task
-first_claimed turns n from end lt start stop some =
-    let (task, is) = claimed_item turns n from end 0 lt start stop some in
-    let here : from + 0 ≡ from = omega arith in
-    (task, subst (λ place. IsClaimed turns n 0 place task) here is)
 
 -- the last reading of a turn, by its head
 pub last_read : (turns : List Turn) (n k : ℕ) (head : Head) (turn : Turn) → option_map turn_head (slice_get turns n) ≡ Some head → k + 1 ≡ n + 1 → slice_get turns k ≡ Some turn → turn.last ≡ head.last

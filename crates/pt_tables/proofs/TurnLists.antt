@@ -1,7 +1,7 @@
 -- The lines of the lists of a turn.
 use Rattle.std.proofs.Common.{◌≡◌, ℕ, ◌<◌, List, [], ◌∷◌, ◌++◌, Some, length, refl, map, slice_get, sym, ap, ◌∙◌, arith}
 use Rattle.std.specs.Prelude.{flat_map, option_map}
-use Rattle.std.proofs.lemmas.List.{length-map}
+use Rattle.std.proofs.lemmas.List.{append_assoc, length-map}
 use Rattle.std.proofs.lemmas.Option.{slice_get-map}
 use Rattle.pt_types.specs.declared.graph.Graph.{Graph}
 use Rattle.pt_semantics.specs.Turn.{Turn}
@@ -35,13 +35,32 @@ all_lines_map : {X : Type 0} (f : X → List ℕ) (xs : List X) → all_lines (m
 all_lines_map f [] = refl
 all_lines_map f (x ∷ xs) = ap (λ l. f x ++ l) (all_lines_map f xs)
 
+in_a_row : (b c d e f : List ℕ) → b ++ (c ++ (d ++ (e ++ f))) ≡ b ++ c ++ d ++ e ++ f
+in_a_row b c d e f = simp append_assoc
+
 module _ (g : Graph) (turn : Turn) where
   -- the lines of one list
   abbrev pub lines_of : TurnList → List ℕ
   lines_of list = all_lines (entry_lines g turn list)
 
-  -- after some bytes, the lines of all lists
+  -- the lines of a list and of those after it
+  abbrev pub claimed_on : List ℕ
+  claimed_on = lines_of Claimed ++ lines_of Sent
+
+  abbrev pub taken_on : List ℕ
+  taken_on = lines_of Taken ++ claimed_on
+
+  abbrev pub rows_on : List ℕ
+  rows_on = lines_of Rows ++ taken_on
+
+  -- the lines of all lists
+  pub all_lists : lines_of Posted ++ rows_on ≡ list_lines g turn
+  all_lists =
+      (λ i. all_lines_map post_line turn.posted i ++ (all_lines_map (row_line g) turn.rows i ++ (all_lines_map (take_line g) turn.taken i ++ (all_lines_map (claim_line g) turn.claimed i ++ all_lines_map (sent_line g) turn.sent i))))
+      ∙ in_a_row (flat_map post_line turn.posted) (flat_map (row_line g) turn.rows) (flat_map (take_line g) turn.taken) (flat_map (claim_line g) turn.claimed) (flat_map (sent_line g) turn.sent)
+
+  -- after some bytes
   pub all_entries : (text : List ℕ) → ((((text ++ lines_of Posted) ++ lines_of Rows) ++ lines_of Taken) ++ lines_of Claimed) ++ lines_of Sent ≡ text ++ list_lines g turn
   all_entries text =
-      (λ i. ((((text ++ all_lines_map post_line turn.posted i) ++ all_lines_map (row_line g) turn.rows i) ++ all_lines_map (take_line g) turn.taken i) ++ all_lines_map (claim_line g) turn.claimed i) ++ all_lines_map (sent_line g) turn.sent i)
-      ∙ sym (regroup text (flat_map post_line turn.posted) (flat_map (row_line g) turn.rows) (flat_map (take_line g) turn.taken) (flat_map (claim_line g) turn.claimed) (flat_map (sent_line g) turn.sent))
+      sym (regroup text (lines_of Posted) (lines_of Rows) (lines_of Taken) (lines_of Claimed) (lines_of Sent))
+      ∙ ap (λ l. text ++ l) (sym (in_a_row (lines_of Posted) (lines_of Rows) (lines_of Taken) (lines_of Claimed) (lines_of Sent)) ∙ all_lists)

@@ -8,6 +8,5 @@ pub mod Gathered
 pub mod TurnLine
 pub mod TurnLists
 pub mod Reader
-pub mod Short
 pub mod Putting
 pub mod Walk

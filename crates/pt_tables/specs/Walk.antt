@@ -1,25 +1,13 @@
 -- A walk through the turns of a history.
 use Rattle.std.specs.Prelude.{◌≡◌, ◌+◌, ◌/◌, ℕ, List, Some, flat_map, length, slice_get, take}
 use Rattle.pt_semantics.specs.Turn.{Turn}
-use Rattle.pt_history.specs.Levels.{AreTurnLevels, IsLevel}
-use Rattle.pt_history.specs.declared.levels.TurnLevels.{TurnLevels}
+use Rattle.pt_history.specs.Levels.{AreTurnLevels}
 use Rattle.pt_tables.specs.declared.walk.Counts.{Counts}
 use Rattle.pt_tables.specs.declared.walk.Walk.{Walk}
-
--- turn n is known to have posted and claimed at most: no row entered, and no message was taken or sent
-pub record HasWorksOnly (levels : TurnLevels) (n : ℕ) : Type 0 where
-  pub rows : IsLevel levels.rows n
-  pub taken : IsLevel levels.taken n
-  pub sent : IsLevel levels.sent n
-
--- the works of a walk are right
-abbrev pub AreWorks : Walk → Type 0
-AreWorks walk = (n : ℕ) → IsLevel walk.works n → HasWorksOnly walk.levels n
 
 -- a walk has come to turn n
 pub record IsAtTurn (turns : List Turn) (n : ℕ) (walk : Walk) : Type 0 where
   pub levels : AreTurnLevels turns (n / 64) walk.levels
-  pub works : AreWorks walk
   pub results : walk.results ≡ length (flat_map (λ (turn : Turn). turn.posted) (take n turns))
   pub claims : walk.claims ≡ length (flat_map (λ (turn : Turn). turn.claimed) (take n turns))
 

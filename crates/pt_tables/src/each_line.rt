@@ -1,6 +1,6 @@
 //! Texts that are put line by line.
 
-ghost use Rattle.std.specs.Prelude.{◌<◌, ◌≤◌, OnErr, OnOk, length};
+ghost use Rattle.std.specs.Prelude.{◌≡◌, ◌<◌, ◌≤◌, OnErr, OnOk, length};
 ghost use Rattle.pt_io.specs.Causes.{Appends, AppendsPart, Rose};
 
 use memchr::memchr;
@@ -11,6 +11,7 @@ use pt_io::{PutFault, Sink};
 /// The lines are collected by the sink, if at all: [`pt_io::OutSink`] writes some 64 KB at a time.
 pub fn put_each_line<K: Sink>(out: &mut K, text: &[u8]) -> Result<(), PutFault>
     ensures all { OnOk result (Appends (K.written out.old) (K.written out.new) text.now) }
+    ensures uncounted { OnOk result (K.faults out.new ≡ K.faults out.old) }
     ensures part { OnErr result (AppendsPart (K.written out.old) (K.written out.new) text.now) }
     ensures failed { OnErr result (Rose (K.faults out.old) (K.faults out.new)) }
     ensures grows { K.faults out.old ≤ K.faults out.new }

@@ -1,9 +1,8 @@
 //! A line that is written from its end.
 
-ghost use Rattle.std.specs.Prelude.{◌≡◌, ◌+◌, ◌<◌, ◌≤◌, ◌++◌, ◌∷◌, [], length, vec_capacity, vec_len};
+ghost use Rattle.std.specs.Prelude.{◌≡◌, ◌+◌, ◌<◌, ◌≤◌, ◌++◌, ◌∷◌, [], length};
 ghost use Rattle.std.specs.Fmt.{decimal, signed_decimal};
 
-use crate::page::append;
 use itoa::write_digits;
 use std::marker::Model;
 
@@ -13,8 +12,8 @@ const ROOM: usize = 128;
 /// How many bytes a short line may have: its copy takes few instructions.
 const SHORT: usize = 64;
 
-/// A line, the end of one, or some lines. It is written from its last byte to its first, as the digits of a number are, and
-/// appended to a text as one piece: that is faster than one piece for each field. Contracts see its bytes.
+/// A line, or the end of one. It is written from its last byte to its first, as the digits of a number are, and put or appended
+/// to a text as one piece: that is faster than one piece for each field. Contracts see its bytes.
 #[derive(Drop)]
 pub(crate) struct LineBuffer {
     bytes: [u8; ROOM],
@@ -82,14 +81,6 @@ impl LineBuffer {
         self.start = short.start;
     }
 
-    /// How many bytes there is room for.
-    #[inline(always)]
-    pub(crate) fn room(&self) -> usize
-        ensures { result + length self.now ≡ 128 }
-    {
-        self.start
-    }
-
     /// Puts a byte before the line.
     #[inline(always)]
     pub(crate) fn put(&mut self, byte: u8)
@@ -153,21 +144,6 @@ impl LineBuffer {
         self.start = start;
     }
 
-    /// Puts a line before this one.
-    #[inline(always)]
-    pub(crate) fn put_line(&mut self, line: &LineBuffer)
-        requires { length line.now + length self.old ≤ 128 }
-        ensures { self.new ≡ line.now ++ self.old }
-    {
-        if line.room() < SHORT {
-            return self.text(line.as_str());
-        }
-        if self.room() < SHORT {
-            return self.text(line.as_str());
-        }
-        self.put_short(line);
-    }
-
     /// Puts a short line before this one. The line's bytes are copied with the unused ones before them, which are overwritten
     /// later: a copy whose size is known takes few instructions.
     #[inline(always)]
@@ -193,8 +169,7 @@ impl LineBuffer {
     /// The bytes of the line.
     #[inline(always)]
     pub(crate) fn as_bytes(&self) -> &[u8]
-        ensures bytes { result.now ≡ self.now }
-        ensures length { length result.now ≤ 128 }
+        ensures { result.now ≡ self.now }
     {
         &self.bytes[self.start..]
     }
@@ -209,30 +184,4 @@ impl LineBuffer {
         self.put(b',');
         self.text(word);
     }
-
-    /// Appends a line and then this one, or these, to a page with room for both: as one piece, if they fit into one.
-    #[inline(always)]
-    pub(crate) fn append_after_line(&mut self, page: &mut Vec<u8>, line: &LineBuffer)
-        requires { vec_len page.old + 256 ≤ vec_capacity page.old }
-        ensures lines { page.new.items ≡ (page.old.items ++ line.now) ++ self.old }
-        ensures capacity { vec_capacity page.old ≤ vec_capacity page.new }
-    {
-        if self.start + line.start < ROOM {
-            append_both(page, line, self);
-            return;
-        }
-        self.put_line(line);
-        append(page, self.as_bytes());
-    }
-}
-
-/// Appends two lines to a page. Not inlined, since most are appended as one piece.
-#[inline(never)]
-fn append_both(page: &mut Vec<u8>, first: &LineBuffer, second: &LineBuffer)
-    requires { vec_len page.old + 256 ≤ vec_capacity page.old }
-    ensures lines { page.new.items ≡ (page.old.items ++ first.now) ++ second.now }
-    ensures capacity { vec_capacity page.old ≤ vec_capacity page.new }
-{
-    append(page, first.as_bytes());
-    append(page, second.as_bytes());
 }

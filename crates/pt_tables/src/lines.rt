@@ -41,18 +41,8 @@ pub fn push_turn_line(
 pub(crate) fn write_post(line: &mut LineBuffer, task: Mark)
     ensures { (done : Done) → mark_of done.task ≡ task → line.new ≡ post_line done }
 {
-    line.clear();
-    put_post(line, task.number);
-}
-
-/// Puts the line of the posted result of task `number` before a line.
-#[inline(always)]
-pub(crate) fn put_post(line: &mut LineBuffer, number: u64)
-    requires { length line.old + 26 ≤ 128 }
-    ensures { line.new ≡ codes "post," ++ decimal number ++ 10 ∷ line.old }
-{
-    line.put(b'\n');
-    line.number(number);
+    line.end();
+    line.number(task.number);
     line.text("post,");
 }
 
@@ -84,13 +74,11 @@ pub(crate) fn write_taken(line: &mut LineBuffer, graph: &Graph, taken: &OnLink)
     );
 }
 
-/// Writes the line of a claim, which is given without its inputs: `claim,NUMBER,ACTOR,TIME,STEP`. There is room for the line of a
-/// result before it.
+/// Writes the line of a claim, which is given without its inputs: `claim,NUMBER,ACTOR,TIME,STEP`.
 #[inline(always)]
 pub(crate) fn write_claim(pen: &mut Pen, graph: &Graph, claim: Mark)
     requires { HasShortNames graph.now }
-    ensures line { (task : Task) → mark_of task ≡ claim → pen.new.line ≡ claim_line graph.now task }
-    ensures room { length pen.new.line + 26 ≤ 128 }
+    ensures { (task : Task) → mark_of task ≡ claim → pen.new.line ≡ claim_line graph.now task }
 {
     pen.end.renew(claim.tag);
     pen.line.copy_short(pen.end.line());

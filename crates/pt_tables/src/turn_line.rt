@@ -1,6 +1,6 @@
 //! The first line of a turn, which many turns have in common.
 
-ghost use Rattle.std.specs.Prelude.{◌≡◌, ◌+◌, ◌≤◌, ◌++◌, ◌∷◌, [], List, ℕ, codes, length, vec_capacity, vec_len};
+ghost use Rattle.std.specs.Prelude.{◌≡◌, ◌≤◌, ◌++◌, ◌∷◌, [], List, ℕ, codes, length};
 ghost use Rattle.pt_tables.specs.Log.{turn_line};
 ghost use Rattle.pt_tables.specs.TurnLine.{HasHead, IsKeptLine};
 
@@ -69,19 +69,6 @@ impl<'a> TurnLine<'a> {
         self.last = last;
         self.count = count;
         write_turn_line(&mut self.line, &self.head, first, last, count);
-    }
-
-    /// Appends the line and the lines after it to a page with room for both: mostly as one piece.
-    #[inline(always)]
-    pub(crate) fn append_before(&self, page: &mut Vec<u8>, after: &mut LineBuffer)
-        requires kept { IsKeptLine self.now }
-        requires room { vec_len page.old + 256 ≤ vec_capacity page.old }
-        ensures lines { page.new.items ≡
-            (page.old.items ++ turn_line self.now.platform.now self.now.first self.now.last
-            self.now.count) ++ after.old }
-        ensures capacity { vec_capacity page.old ≤ vec_capacity page.new }
-    {
-        after.append_after_line(page, &self.line);
     }
 }
 

@@ -41,6 +41,7 @@ pub(crate) struct TurnLists<'a> {
 
 impl<'a> TurnLists<'a> {
     /// The lists of the turn to which a walk has come, where the results and claims up to its end are counted.
+    #[inline(always)]
     pub(crate) fn of(
         history: &'a History,
         walk: &Walk,

@@ -1,10 +1,10 @@
 //! A walk through the turns of a history.
 
-ghost use Rattle.std.specs.Prelude.{◌≡◌, ℕ, ◌+◌, ◌/◌, ◌<◌, ◌≤◌, List, Some, flat_map, length, option_map, slice_get, take, true};
-ghost use Rattle.pt_history.specs.Levels.{AreTurnLevels, IsLevel};
+ghost use Rattle.std.specs.Prelude.{◌≡◌, ℕ, ◌+◌, ◌/◌, ◌<◌, List, Some, flat_map, length, option_map, slice_get, take};
+ghost use Rattle.pt_history.specs.Levels.{AreTurnLevels};
 ghost use Rattle.pt_history.specs.Turns.{turn_head};
 ghost use Rattle.pt_semantics.specs.Turn.{Turn};
-ghost use Rattle.pt_tables.specs.Walk.{AreThrough, AreWorks, HasWorksOnly, IsAtTurn, IsLastBefore};
+ghost use Rattle.pt_tables.specs.Walk.{AreThrough, IsAtTurn, IsLastBefore};
 
 use pt_history::{Head, HeadLevels, History, Levels, TurnLevels};
 use pt_types::{OnLink, RowAt};
@@ -14,8 +14,6 @@ use pt_types::{OnLink, RowAt};
 pub(crate) struct Walk {
     /// What is known of the 64 turns among which that turn is.
     pub levels: TurnLevels,
-    /// Which of them are known to have posted and claimed at most.
-    pub works: Levels,
     /// How many results the turns before it posted.
     pub results: usize,
     /// How many tasks the turns before it claimed.
@@ -37,10 +35,8 @@ impl Walk {
     pub(crate) fn new(history: &History) -> Walk
         ensures { IsAtTurn history.now.turns 0 result }
     {
-        let levels = history.levels(0);
         Walk {
-            levels,
-            works: works_of(&levels),
+            levels: history.levels(0),
             results: 0,
             claims: 0,
         }
@@ -51,10 +47,8 @@ impl Walk {
         requires { number < length history.now.turns }
         ensures { IsAtTurn history.now.turns number result }
     {
-        let levels = unknown();
         Walk {
-            levels,
-            works: works_of(&levels),
+            levels: unknown(),
             results: history.results_through(number) - history.posted(number),
             claims: history.claims_through(number) - history.claimed(number),
         }
@@ -79,22 +73,6 @@ fn unknown() -> TurnLevels
     }
 }
 
-/// Goes on from a turn to the next one. What is counted stays.
-#[inline(always)]
-pub(crate) fn renew(walk: &mut Walk, history: &History, number: usize)
-    requires levels { AreTurnLevels history.now.turns (number / 64) walk.old.levels }
-    requires works { AreWorks walk.old }
-    ensures levels { AreTurnLevels history.now.turns ((number + 1) / 64) walk.new.levels }
-    ensures works { AreWorks walk.new }
-    ensures results { walk.new.results ≡ walk.old.results }
-    ensures claims { walk.new.claims ≡ walk.old.claims }
-{
-    if number % 64 == 63 {
-        walk.levels = history.levels(number / 64 + 1);
-        walk.works = works_of(&walk.levels);
-    }
-}
-
 /// Goes on with what is known of 64 turns from a turn to the next one.
 #[inline(always)]
 pub(crate) fn renew_levels(levels: &mut TurnLevels, history: &History, number: usize)
@@ -115,7 +93,7 @@ pub(crate) fn pass(walk: &mut Walk, history: &History, number: usize, through: C
 {
     walk.results = through.results;
     walk.claims = through.claims;
-    renew(walk, history, number);
+    renew_levels(&mut walk.levels, history, number);
 }
 
 /// How many results and claims there are up to the end of the turn to which a walk has come.
@@ -129,21 +107,6 @@ pub(crate) fn counts_through(walk: &Walk, history: &History, number: usize) -> C
         results: results_after(history, &walk.levels, walk.results, number),
         claims: claims_after(history, &walk.levels, walk.claims, number),
     }
-}
-
-/// Whether the turn to which a walk has come is known to be short.
-#[inline(always)]
-pub(crate) fn is_short(walk: &Walk, number: usize, through: Counts) -> bool
-    requires works { AreWorks walk.now }
-    requires results { walk.now.results ≤ through.results }
-    requires claims { walk.now.claims ≤ through.claims }
-    ensures works { result ≡ true → HasWorksOnly walk.now.levels number }
-    ensures few { result ≡ true → (through.results ≤ walk.now.results + 1)
-        × (through.claims ≤ walk.now.claims + 1) }
-{
-    walk.works.is_level(number)
-        && through.results - walk.results <= 1
-        && through.claims - walk.claims <= 1
 }
 
 /// The head of a turn, where `last` is the last reading of the turn before it. Most turns are single and have the reading of the
@@ -246,33 +209,4 @@ pub(crate) fn claims_after(
         return claims;
     }
     history.claims_through(turn)
-}
-
-/// Which of 64 turns are known to have posted and claimed at most: no row entered, and no message was taken or sent.
-fn works_of(levels: &TurnLevels) -> Levels
-    ensures { (n : ℕ) → IsLevel result n → HasWorksOnly levels.now n }
-{
-    both(both(levels.rows, levels.taken), levels.sent)
-}
-
-/// What is known of two lists at once: an item is level here if it is in both.
-#[inline(always)]
-fn both(a: Levels, b: Levels) -> Levels
-    ensures { (n : ℕ) → IsLevel result n → IsLevel a n × IsLevel b n }
-{
-    Levels {
-        bits: a.bits | b.bits,
-        limit: lesser(a.limit, b.limit),
-    }
-}
-
-/// The lesser of two numbers.
-#[inline(always)]
-fn lesser(a: usize, b: usize) -> usize
-    ensures { (result ≤ a) × (result ≤ b) }
-{
-    if a < b {
-        return a;
-    }
-    b
 }

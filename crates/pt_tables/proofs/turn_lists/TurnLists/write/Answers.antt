@@ -44,4 +44,4 @@ returns-in-Claimed c = λ turn at.
     let made : claimed_in turns lists.number ≡ turn.claimed = read_of (λ (t : Turn). t.claimed) (slice_get turns lists.number) turn (claimed_in turns lists.number) at (claimed_is turns lists.number c.requires.number) in
     let there : slice_get turn.claimed c.args.index ≡ Some task = ap (λ tasks. slice_get tasks c.args.index) (sym made) ∙ is.own in
     subst (λ list. slice_get (entry_lines g turn list) c.args.index ≡ Some c.write_claim.new.pen.line) (sym c.in-Claimed.is)
-    (line_of (claim_line g) turn.claimed c.args.index task there ∙ ap Some (sym (c.write_claim.ensures.line task (is.mark c.mark.result c.mark.ensures))))
+    (line_of (claim_line g) turn.claimed c.args.index task there ∙ ap Some (sym (c.write_claim.ensures task (is.mark c.mark.result c.mark.ensures))))

@@ -10,8 +10,7 @@ overflow_sub-result-2 c = omega (arith, c.claimed.ensures, c.claims_through.ensu
 
 pub returns : goal.returns
 returns c = record {
-  levels = c.unknown-levels.ensures c.args.history.now.turns (c.args.number / 64);
-  works = c.works_of.ensures;
+  levels = c.unknown.ensures c.args.history.now.turns (c.args.number / 64);
   results = omega (arith, c.posted.ensures, c.results_through.ensures, posted_more c.args.history.now.turns c.args.number c.requires);
   claims = omega (arith, c.claimed.ensures, c.claims_through.ensures, claimed_more c.args.history.now.turns c.args.number c.requires);
 }
