@@ -7,11 +7,16 @@ ghost use Rattle.pt_fixed_order.specs.Asked.{HasNone, HasOne};
 use pt_engine::all_idle_until;
 use pt_io::Clock;
 use pt_links::Pipe;
+use pt_tags::Reading;
 use pt_turn::{Platform, TurnFault};
 use std::thread::yield_now;
 
 /// How much earlier a rest ends than a clock's own wait would, in microseconds: the first visits after a long sleep are slow.
 const EARLIER: u64 = 100;
+
+/// A rest is begun only if nothing can happen for at least this long, in microseconds: a shorter one isn't worth its wake, which
+/// may come too late for a deadline that is near.
+const LONG: u64 = 2_000;
 
 /// The number of the platform that is visited after this one: the next, or after the last the first.
 pub fn after(count: usize, number: usize) -> usize
@@ -34,8 +39,16 @@ pub fn fault_of(platforms: &[Platform], place: usize) -> Option<(u32, TurnFault)
     }
 }
 
-/// Before the first platform is visited again: lets time pass until something can happen on a platform, if the clocks rise by
-/// themselves.
+/// The reading of the last turn of the platform that was visited last; 0 if there is none.
+fn latest_reading(platforms: &[Platform]) -> Reading {
+    match platforms.last() {
+        Some(platform) => platform.reading().unwrap_or(0),
+        None => 0,
+    }
+}
+
+/// Before the first platform is visited again, if the clocks rise by themselves: lets time pass until something can happen on a
+/// platform, or, where that is soon, lets other processes run.
 pub fn rest<C: Clock>(platforms: &[Platform], pipes: &[Pipe], clocks: &mut [C], next: usize)
     ensures { viewed C.readings C.ahead clocks.new ≡ viewed C.readings C.ahead clocks.old }
 {
@@ -43,7 +56,9 @@ pub fn rest<C: Clock>(platforms: &[Platform], pipes: &[Pipe], clocks: &mut [C], 
         return;
     }
     if let Some(until) = all_idle_until(platforms, pipes) {
-        clocks[0].wait(until.saturating_sub(EARLIER));
+        if until.saturating_sub(latest_reading(platforms)) >= LONG {
+            clocks[0].wait(until - EARLIER);
+        }
         yield_now();
     }
 }

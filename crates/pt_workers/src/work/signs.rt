@@ -5,10 +5,16 @@ use std::sync::{Condvar, Wait};
 use std::thread::yield_now;
 use std::time::Duration;
 
-/// How much earlier than at the next reading a rest ends, in microseconds, since a sleep takes longer than it should.
-const SPARE: u64 = 150;
+/// How much earlier than at the next reading a rest ends, in microseconds: a sleep takes longer than it should, and the first
+/// visits after it are slow.
+const SPARE: u64 = 250;
 
-/// The longest rest, in microseconds. What happens meanwhile is announced, so it only bounds what a lost announcement costs.
+/// A rest is begun only if nothing can happen for at least this long, in microseconds: a shorter one isn't worth its wake, which
+/// may come too late for a deadline that is near.
+const LONG: u64 = 2_000;
+
+/// The longest rest, in microseconds, or `LONG` more where too little would be left for another one. What happens meanwhile is
+/// announced, so it only bounds what a lost announcement costs.
 const LONGEST: u64 = 10_000;
 
 /// How many quiet rounds a worker makes before it rests, if a result is awaited: most firings take less time than a rest.
@@ -76,16 +82,25 @@ impl Signs {
     }
 
     /// After a round in which nothing happened: rests while nothing can, unless something was announced since these rounds
-    /// began, or lets other threads run if it is too early for a rest. Returns what the next round begins with.
+    /// began, or lets other threads run if it is too early or too late for a rest. Returns what the next round begins with.
     pub(crate) fn rest<R: Wait>(&self, rt: &R, calm: Calm) -> Calm {
-        if calm.micros <= SPARE || (calm.awaits && calm.rounds < LOOKS) {
+        if calm.micros < LONG || (calm.awaits && calm.rounds < LOOKS) {
             yield_now();
             return calm.next_round();
         }
-        let micros = (calm.micros - SPARE).min(LONGEST);
+        let micros = one_rest(calm.micros - SPARE);
         self.news
             .sleep(rt, calm.announced, Duration::from_micros(micros));
         Calm::new(self)
+    }
+}
+
+/// How long one rest lasts where so many microseconds can be rested: all of them, unless enough would be left for another rest.
+fn one_rest(micros: u64) -> u64 {
+    if micros < LONGEST + LONG {
+        micros
+    } else {
+        LONGEST
     }
 }
 
