@@ -7,9 +7,9 @@ ghost use Rattle.std.specs.Prelude.{◌≤◌, IsTrue};
 ghost use Rattle.pt_types.specs.Kinds.{kind_is_lawful};
 
 use pt_actors::{Inputs, fire_kind};
-use pt_sensors::read_rows;
+use pt_sensors::{file_limits, read_rows};
 use pt_tags::List;
-use pt_types::{Kind, Law, MachineRow};
+use pt_types::{Kind, Law, MachineRow, USUAL_CLAIMS};
 use std::alloc::{AllocError, Global};
 use std::io;
 use std::time::Instant;
@@ -45,7 +45,7 @@ fn text(alloc: Global, rows: u64) -> Result<String, AllocError>
 fn rows(alloc: Global, text: &str) -> usize {
     let mut count = 0;
     for _ in 0..READINGS {
-        count = match read_rows(alloc, text.as_bytes()) {
+        count = match read_rows(alloc, file_limits(USUAL_CLAIMS), text.as_bytes()) {
             Ok(rows) => rows.as_slice().len(),
             Err(_) => 0,
         };

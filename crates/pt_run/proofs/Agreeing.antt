@@ -3,7 +3,6 @@ use Rattle.std.proofs.Common.{◌≡◌, ℕ, Bool, List, Option, None, Some, Re
 use Rattle.pt_types.specs.declared.graph.Graph.{Graph}
 use Rattle.pt_blocks.specs.declared.blocks.Named.{Named}
 use Rattle.pt_graph_text.specs.declared.fault.GraphFault.{GraphFault}
-use Rattle.pt_graph.specs.GraphOf.{graph_of}
 use Rattle.pt_semantics.proofs.Lookups.{none_some, same_some}
 use Rattle.pt_turn.specs.All.{histories_of}
 use Rattle.pt_io.specs.Calls.{Contents}
@@ -12,14 +11,16 @@ use Rattle.pt_run.proofs.RunsAgreeing.{finished_agree, runs_agree as left_agree}
 use Rattle.pt_run.specs.Agreeing.{RunsAgree}
 use Rattle.pt_words.specs.declared.orders.ClockChoice.TheVariants.{Paced}
 use Rattle.pt_run.specs.Written.{IsRun, Leaves, run_clocks}
+use Rattle.pt_run.specs.GraphFiles.{graph_by}
+use Rattle.pt_words.specs.Grammar.{GraphFile}
 
 -- a file with known content defines one graph
 same_ok : (g h : Graph) → ◌≡◌ {A = Result Graph GraphFault} (Ok g) (Ok h) → g ≡ h
 same_ok g h e = cc
 
-defined : (blocks : List Named) (reported : Option (List ℕ)) (bytes : List ℕ) (g : Graph) → reported ≡ Some bytes → IfSome reported (λ bytes. graph_of blocks bytes ≡ Ok g) → graph_of blocks bytes ≡ Ok g
-defined blocks None bytes g e h = absurd (none_some bytes e)
-defined blocks (Some reported) bytes g e h = subst (λ b. graph_of blocks b ≡ Ok g) (same_some reported bytes e) h
+defined : (blocks : List Named) (graph_file : GraphFile) (reported : Option (List ℕ)) (bytes : List ℕ) (g : Graph) → reported ≡ Some bytes → IfSome reported (λ bytes. graph_by blocks graph_file bytes ≡ Ok g) → graph_by blocks graph_file bytes ≡ Ok g
+defined blocks graph_file None bytes g e h = absurd (none_some bytes e)
+defined blocks graph_file (Some reported) bytes g e h = subst (λ b. graph_by blocks graph_file b ≡ Ok g) (same_some reported bytes e) h
 
 over_graph : (contents : Contents) (g h : Graph) (workers others : ℕ) (log : Bool) (left other : Leaves) (text written : List ℕ) → g ≡ h → ReportsSensors contents g → IsRun contents g workers Paced log left text → IsRun contents h others Paced log other written →
     (text ≡ written) × (left.misses ≡ other.misses) × ((i : ℕ) → histories_of left.platforms i ≡ histories_of other.platforms i)
@@ -32,7 +33,7 @@ over_graph contents g h workers others log left other text written same files a 
     (texts.0, texts.1, (left_agree contents c d a.plan b.plan left.platforms other.platforms None None refl refl graphs reported a.finished.run b.finished.run).0)
 
 pub runs_agree : RunsAgree
-runs_agree workers others log contents blocks name left other text written all (g, read, run) (h, read2, run2) =
-    let one = defined blocks (contents name) all.bytes g all.reported read in
-    let two = defined blocks (contents name) all.bytes h all.reported read2 in
+runs_agree workers others log contents blocks graph_file left other text written all (g, read, run) (h, read2, run2) =
+    let one = defined blocks graph_file (contents graph_file.name) all.bytes g all.reported read in
+    let two = defined blocks graph_file (contents graph_file.name) all.bytes h all.reported read2 in
     over_graph contents g h workers others log left other text written (same_ok g h (sym one ∙ two)) (all.files g one) run run2

@@ -2,7 +2,6 @@
 use Rattle.std.proofs.Common.{◌≡◌, ◌⊎◌, ℕ, List, Option, Some, None, Result, Ok, Err, IfSome, true, refl, sym, ap, subst, inl, inr}
 use Rattle.pt_types.specs.declared.graph.Graph.{Graph}
 use Rattle.pt_blocks.specs.declared.blocks.Named.{Named}
-use Rattle.pt_graph.specs.GraphOf.{graph_of}
 use Rattle.pt_io.specs.Calls.{Contents, SourceCall, SinkCall}
 use Rattle.pt_types.specs.declared.air.Air.{Air}
 use Rattle.pt_air.specs.declared.fault.AirFault.{AirFault}
@@ -20,6 +19,7 @@ use Rattle.pt_run.proofs.Stages.{not_true}
 use Rattle.pt_run.proofs.Begun.{only_unread}
 use Rattle.pt_run.proofs.Complete.{agrees, ok_err, this_graph}
 use Rattle.pt_run.proofs.OneCause.{same_err}
+use Rattle.pt_run.specs.GraphFiles.{graph_by}
 
 -- a file that could not be read
 unread : (sensor : Option ℕ) → WantsAir (Some (fault.Read sensor))
@@ -27,8 +27,8 @@ unread None = inl (inl (inr refl))
 unread (Some actor) = inl (inr (actor, refl))
 
 module _ (order : Option Order) (left : Leaves) (contents : Contents) (blocks : List Named) (r : SourceCall) (w : SinkCall) (g : Graph) (bytes : List ℕ) (f : AirFault) (can : CanReadAir order contents blocks g bytes) (is : air_of g bytes ≡ Err f) where
-  here : (h : Graph) → IfSome (contents can.name) (λ content. graph_of blocks content ≡ Ok h) → h ≡ g
-  here h file = this_graph contents blocks can.name g can.begins h file
+  here : (h : Graph) → IfSome (contents can.graph_file.name) (λ content. graph_by blocks can.graph_file content ≡ Ok h) → h ≡ g
+  here h file = this_graph contents blocks can.graph_file g can.begins h file
 
   -- what the recording says of the graph is that fault
   says : (h : Graph) → h ≡ g → (d : Result Air AirFault) → IfSome (contents can.air) (λ content. air_of h content ≡ d) → Err f ≡ d
@@ -37,13 +37,13 @@ module _ (order : Option Order) (left : Leaves) (contents : Contents) (blocks : 
       (subst (λ (z : Graph). IfSome (contents can.air) (λ content. air_of z content ≡ d)) same file)
 
   -- so no replay ran
-  never_ran : (o : Option Fault) → RunWith contents blocks can.name (OnAir contents can.air (LeavesReplay can.log o left w)) → ⊥
+  never_ran : (o : Option Fault) → RunWith contents blocks can.graph_file (OnAir contents can.air (LeavesReplay can.log o left w)) → ⊥
   never_ran o k = ok_err k.over.fact.recorded f (sym (says k.plan.graph (here k.plan.graph k.file) (Ok k.over.fact.recorded) k.over.fact.file))
 
-  refused : (e : Fault) → is_before_last e ≡ true → IsCause e left paced_run contents blocks can.name r w → WantsAir (Some e)
-  refused e before k = let (sensor, same, rose) = only_unread contents blocks can.name g can.begins left r w e before k in subst (λ z. WantsAir (Some z)) (sym same) (unread sensor)
+  refused : (e : Fault) → is_before_last e ≡ true → IsCause e left paced_run contents blocks can.graph_file r w → WantsAir (Some e)
+  refused e before k = let (sensor, same, rose) = only_unread contents blocks can.graph_file g can.begins left r w e before k in subst (λ z. WantsAir (Some z)) (sym same) (unread sensor)
 
-  pub finds_air : (o : Option Fault) → EndsReplay o left can.name can.air can.log contents blocks r w → (o ≡ Some (fault.Air f)) ⊎ WantsAir o
+  pub finds_air : (o : Option Fault) → EndsReplay o left can.graph_file can.air can.log contents blocks r w → (o ≡ Some (fault.Air f)) ⊎ WantsAir o
   finds_air None k = absurd (never_ran None k)
   finds_air (Some fault.Write) k = absurd (never_ran (Some fault.Write) k.1)
   finds_air (Some (fault.Long (Some platform))) k = absurd (never_ran (Some (fault.Long (Some platform))) k)

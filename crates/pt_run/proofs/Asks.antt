@@ -1,12 +1,11 @@
 -- Which files a source was asked for.
-use Rattle.std.proofs.Common.{◌≡◌, ◌≢◌, ◌⊎◌, ℕ, zero, suc, List, [], ◌∷◌, ◌+◌, ◌++◌, Option, Some, None, Result, Ok, Err, IfSome, IfErr, take, append_assoc, refl, sym, ap, subst, ◌∙◌, inl, inr, ⊎_elim}
+use Rattle.std.proofs.Common.{◌≡◌, ◌⊎◌, ℕ, zero, suc, List, [], ◌∷◌, ◌+◌, ◌++◌, Option, Some, None, Result, Ok, Err, IfSome, IfErr, take, append_assoc, refl, sym, ap, subst, ◌∙◌, inl, inr, ⊎_elim}
 use Rattle.pt_types.specs.declared.graph.Graph.{Graph}
 use Rattle.pt_types.specs.declared.graph.Actor.{Actor}
 use Rattle.pt_blocks.specs.declared.blocks.Named.{Named}
 use Rattle.pt_types.specs.declared.rows.Row.{Row}
 use Rattle.pt_graph_text.specs.declared.fault.GraphFault.{GraphFault}
 use Rattle.pt_graph_text.specs.declared.fault.GraphFault.TheVariants as graph
-use Rattle.pt_graph.specs.GraphOf.{graph_of}
 use Rattle.pt_causality.specs.declared.cycle.CycleFault.{CycleFault}
 use Rattle.pt_causality.specs.declared.cycle.CycleFault.TheVariants as cycle
 use Rattle.pt_sensors.specs.declared.recorded_fault.RecordedFault.{RecordedFault}
@@ -31,9 +30,10 @@ use Rattle.pt_run.specs.Faults.{fault_of_cycle, fault_of_graph, fault_of_rows, f
 use Rattle.pt_run.specs.LastFiles.{unread_of}
 use Rattle.pt_run.specs.Runs.{IsStop}
 use Rattle.pt_run.specs.Texts.{HasEnded, OrMemory, PutBy, PutsOrReports, fault_in, stop_in}
-use Rattle.pt_words.specs.Grammar.{Order, audit, make, migrate, over, replay}
+use Rattle.pt_words.specs.Grammar.{GraphFile, Order, audit, make, migrate, over, replay}
 use Rattle.pt_run.specs.Written.{leaves_nothing}
 use Rattle.pt_run.proofs.Planned.{by_refusal}
+use Rattle.pt_run.specs.GraphFiles.{graph_by}
 
 -- The first of some names.
 
@@ -209,47 +209,47 @@ ended_asks (Err s) o w actors last before now ends h =
 
 -- From the graph file on.
 
-module _ (contents : Contents) (blocks : List Named) (name : List ℕ) (actors : Graph → List Actor) (last : List (List ℕ)) (first now : Option (List (List ℕ))) where
+module _ (contents : Contents) (blocks : List Named) (graph_file : GraphFile) (actors : Graph → List Actor) (last : List (List ℕ)) (first now : Option (List (List ℕ))) where
   -- it defines this graph
-  pub asks_on : (g : Graph) (outcome : Option Fault) (asked : Option (List (List ℕ))) → IfSome (contents name) (λ bytes. graph_of blocks bytes ≡ Ok g) → Asks first asked (name ∷ []) → AsksOver outcome [] (actors g) last asked now → AsksFrom outcome contents blocks name actors last first now
-  asks_on g outcome asked read asks (files, are, more) = inr (g, read, (files, are, asks_more first asked now (name ∷ []) files asks more))
+  pub asks_on : (g : Graph) (outcome : Option Fault) (asked : Option (List (List ℕ))) → IfSome (contents graph_file.name) (λ bytes. graph_by blocks graph_file bytes ≡ Ok g) → Asks first asked (graph_file.name ∷ []) → AsksOver outcome [] (actors g) last asked now → AsksFrom outcome contents blocks graph_file actors last first now
+  asks_on g outcome asked read asks (files, are, more) = inr (g, read, (files, are, asks_more first asked now (graph_file.name ∷ []) files asks more))
 
   -- and no other file is to be asked for
-  pub asks_only : (g : Graph) (outcome : Option Fault) → IfSome (contents name) (λ bytes. graph_of blocks bytes ≡ Ok g) → Asks first now (name ∷ []) → AsksFrom outcome contents blocks name (λ g. []) [] first now
-  asks_only g outcome read asks = inr (g, read, ([], none_to_ask outcome, subst (Asks first now) (sym (append_none (name ∷ []))) asks))
+  pub asks_only : (g : Graph) (outcome : Option Fault) → IfSome (contents graph_file.name) (λ bytes. graph_by blocks graph_file bytes ≡ Ok g) → Asks first now (graph_file.name ∷ []) → AsksFrom outcome contents blocks graph_file (λ g. []) [] first now
+  asks_only g outcome read asks = inr (g, read, ([], none_to_ask outcome, subst (Asks first now) (sym (append_none (graph_file.name ∷ []))) asks))
 
   -- it gave no graph
-  alone_memory : (outcome : Option Fault) → AsksAlone outcome name first now → AsksAlone (Some fault.Memory) name first now
+  alone_memory : (outcome : Option Fault) → AsksAlone outcome graph_file first now → AsksAlone (Some fault.Memory) graph_file first now
   alone_memory (Some (fault.Graph f)) h = inr h
   alone_memory (Some (fault.Read None)) h = inr h
   alone_memory (Some fault.Memory) h = h
   alone_memory outcome h = absurd h
 
-  from_memory : (outcome : Option Fault) → AsksFrom outcome contents blocks name actors last first now → AsksFrom (Some fault.Memory) contents blocks name actors last first now
+  from_memory : (outcome : Option Fault) → AsksFrom outcome contents blocks graph_file actors last first now → AsksFrom (Some fault.Memory) contents blocks graph_file actors last first now
   from_memory outcome (inl h) = inl (alone_memory outcome h)
-  from_memory outcome (inr (g, read, h)) = inr (g, read, over_memory (name ∷ []) (actors g) last first now outcome h)
+  from_memory outcome (inr (g, read, h)) = inr (g, read, over_memory (graph_file.name ∷ []) (actors g) last first now outcome h)
 
   -- its fault, or that there is no memory for its line
-  pub from_reported : (outcome : Option Fault) (f reported : Fault) → outcome ≡ Some reported → (reported ≡ f) ⊎ (reported ≡ fault.Memory) → AsksFrom (Some f) contents blocks name actors last first now → AsksFrom outcome contents blocks name actors last first now
-  from_reported outcome f reported is report h = subst (λ o. AsksFrom o contents blocks name actors last first now) (sym is)
+  pub from_reported : (outcome : Option Fault) (f reported : Fault) → outcome ≡ Some reported → (reported ≡ f) ⊎ (reported ≡ fault.Memory) → AsksFrom (Some f) contents blocks graph_file actors last first now → AsksFrom outcome contents blocks graph_file actors last first now
+  from_reported outcome f reported is report h = subst (λ o. AsksFrom o contents blocks graph_file actors last first now) (sym is)
       (⊎_elim
-      (λ (same : reported ≡ f). subst (λ e. AsksFrom (Some e) contents blocks name actors last first now) (sym same) h)
-      (λ (memory : reported ≡ fault.Memory). subst (λ e. AsksFrom (Some e) contents blocks name actors last first now) (sym memory) (from_memory (Some f) h))
+      (λ (same : reported ≡ f). subst (λ e. AsksFrom (Some e) contents blocks graph_file actors last first now) (sym same) h)
+      (λ (memory : reported ≡ fault.Memory). subst (λ e. AsksFrom (Some e) contents blocks graph_file actors last first now) (sym memory) (from_memory (Some f) h))
       report)
 
-  pub from_graph : (outcome : Option Fault) (f reported : Fault) → outcome ≡ Some reported → (reported ≡ f) ⊎ (reported ≡ fault.Memory) → AsksAlone (Some f) name first now → AsksFrom outcome contents blocks name actors last first now
+  pub from_graph : (outcome : Option Fault) (f reported : Fault) → outcome ≡ Some reported → (reported ≡ f) ⊎ (reported ≡ fault.Memory) → AsksAlone (Some f) graph_file first now → AsksFrom outcome contents blocks graph_file actors last first now
   from_graph outcome f reported is report h = from_reported outcome f reported is report (inl h)
 
 -- the graph file was fetched and has a fault
-pub alone_asks : (f : GraphFault) (name : List ℕ) (before now : Option (List (List ℕ))) → Asks before now (name ∷ []) → AsksAlone (Some (fault_of_graph f)) name before now
-alone_asks graph.Memory name before now asks = inr asks
-alone_asks f name before now asks = asks
+pub alone_asks : (f : GraphFault) (graph_file : GraphFile) (before now : Option (List (List ℕ))) → Asks before now (graph_file.name ∷ []) → AsksAlone (Some (fault_of_graph f)) graph_file before now
+alone_asks graph.Memory graph_file before now asks = inr asks
+alone_asks f graph_file before now asks = asks
 
 -- memory ran out before the words were read
 pub asked_nothing : (order : Option Order) (outcome : Option Fault) (contents : Contents) (blocks : List Named) (r : SourceCall) → outcome ≡ Some fault.Memory → Asks r.asked_before r.asked_now [] → AsksOf outcome order contents blocks r
 asked_nothing None outcome contents blocks r is h = h
-asked_nothing (Some (over command name)) outcome contents blocks r is h = subst (λ o. AsksOf o (Some (over command name)) contents blocks r) (sym is) (inl (inl h))
+asked_nothing (Some (over command graph_file)) outcome contents blocks r is h = subst (λ o. AsksOf o (Some (over command graph_file)) contents blocks r) (sym is) (inl (inl h))
 asked_nothing (Some (make number workers)) outcome contents blocks r is h = h
-asked_nothing (Some (migrate name)) outcome contents blocks r is h = subst (λ o. AsksOf o (Some (migrate name)) contents blocks r) (sym is) (inl (inl h))
-asked_nothing (Some (audit name log)) outcome contents blocks r is h = subst (λ o. AsksOf o (Some (audit name log)) contents blocks r) (sym is) (inl (inl h))
-asked_nothing (Some (replay name air workers log)) outcome contents blocks r is h = subst (λ o. AsksOf o (Some (replay name air workers log)) contents blocks r) (sym is) (inl (inl h))
+asked_nothing (Some (migrate graph_file)) outcome contents blocks r is h = subst (λ o. AsksOf o (Some (migrate graph_file)) contents blocks r) (sym is) (inl (inl h))
+asked_nothing (Some (audit graph_file log)) outcome contents blocks r is h = subst (λ o. AsksOf o (Some (audit graph_file log)) contents blocks r) (sym is) (inl (inl h))
+asked_nothing (Some (replay graph_file air workers log)) outcome contents blocks r is h = subst (λ o. AsksOf o (Some (replay graph_file air workers log)) contents blocks r) (sym is) (inl (inl h))

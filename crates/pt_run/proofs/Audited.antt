@@ -4,7 +4,6 @@ use Rattle.pt_types.specs.declared.graph.Graph.{Graph}
 use Rattle.pt_types.specs.declared.rows.Row.{Row}
 use Rattle.pt_blocks.specs.declared.blocks.Named.{Named}
 use Rattle.pt_graph_text.specs.declared.fault.GraphFault.{GraphFault}
-use Rattle.pt_graph.specs.GraphOf.{graph_of}
 use Rattle.pt_offsets.specs.Plans.{Parts}
 use Rattle.pt_offsets.specs.Margins.{IsFirstInfeasible}
 use Rattle.pt_semantics.specs.Cycles.{NoFreeCycle}
@@ -28,6 +27,7 @@ use Rattle.pt_run.proofs.Complete.{agrees, ok_err, same_ok, too_late}
 use Rattle.pt_run.proofs.OneCause.{fails_all, late_all}
 use Rattle.pt_run.proofs.OnePlan.{same_accepted, same_unlawful}
 use Rattle.pt_run.proofs.RunsAgreeing.{same_rows}
+use Rattle.pt_run.specs.GraphFiles.{graph_by}
 
 -- all was written, or a write failed
 abbrev pub IsPut : Option Fault → Type 0
@@ -44,16 +44,16 @@ of_content : (content : Option (List ℕ)) (bytes : List ℕ) (Fact : List ℕ �
 of_content content bytes Fact is h = subst (λ c. IfSome c Fact) is h
 
 module _ (order : Option Order) (left : Leaves) (contents : Contents) (blocks : List Named) (r : SourceCall) (w : SinkCall) (plan : Parts) (rows : ℕ → List Row) (bytes : List ℕ) (can : CanAudit order contents blocks plan rows bytes) where
-  abbrev begins : CanBegin contents blocks can.name plan.graph
+  abbrev begins : CanBegin contents blocks can.graph_file plan.graph
   begins = can.begins
 
-  file : (d : Result Graph GraphFault) → IfSome (contents can.name) (λ bytes. graph_of blocks bytes ≡ d) → Ok plan.graph ≡ d
-  file d other = agrees (graph_of blocks) (contents can.name) begins.bytes (Ok plan.graph) d begins.reported (subst (λ z. IfSome z (λ bytes. graph_of blocks bytes ≡ Ok plan.graph)) (sym begins.reported) begins.graph) other
+  file : (d : Result Graph GraphFault) → IfSome (contents can.graph_file.name) (λ bytes. graph_by blocks can.graph_file bytes ≡ d) → Ok plan.graph ≡ d
+  file d other = agrees (graph_by blocks can.graph_file) (contents can.graph_file.name) begins.bytes (Ok plan.graph) d begins.reported (subst (λ z. IfSome z (λ bytes. graph_by blocks can.graph_file bytes ≡ Ok plan.graph)) (sym begins.reported) begins.graph) other
 
-  this_graph : (g : Graph) → IfSome (contents can.name) (λ bytes. graph_of blocks bytes ≡ Ok g) → plan.graph ≡ g
+  this_graph : (g : Graph) → IfSome (contents can.graph_file.name) (λ bytes. graph_by blocks can.graph_file bytes ≡ Ok g) → plan.graph ≡ g
   this_graph g other = same_ok {E = GraphFault} plan.graph g (file (Ok g) other)
 
-  module _ (Fact : Parts → (ℕ → List Row) → List ℕ → Type 0) (h : RunWith contents blocks can.name (OnLog contents can.log Fact)) where
+  module _ (Fact : Parts → (ℕ → List Row) → List ℕ → Type 0) (h : RunWith contents blocks can.graph_file (OnLog contents can.log Fact)) where
     graphs : plan.graph ≡ h.plan.graph
     graphs = this_graph h.plan.graph h.file
 
@@ -63,13 +63,13 @@ module _ (order : Option Order) (left : Leaves) (contents : Contents) (blocks : 
     found_fact : Fact h.plan rows bytes
     found_fact = subst (λ (rs : ℕ → List Row). Fact h.plan rs bytes) over_rows (of_content (contents can.log) bytes (Fact h.plan (of_run h.plan.graph h.over.rows)) can.reported h.over.fact)
 
-  accepted_here : RunWith contents blocks can.name (OnLog contents can.log Accepts) → Accepts plan rows bytes
+  accepted_here : RunWith contents blocks can.graph_file (OnLog contents can.log Accepts) → Accepts plan rows bytes
   accepted_here h = same_accepted h.plan plan rows bytes h.over.admitted can.admitted (sym (graphs Accepts h)) (found_fact Accepts h)
 
-  unlawful_here : (v : Verdict) → RunWith contents blocks can.name (OnLog contents can.log (λ p rs bs. IsUnlawful p rs bs v)) → IsUnlawful plan rows bytes v
+  unlawful_here : (v : Verdict) → RunWith contents blocks can.graph_file (OnLog contents can.log (λ p rs bs. IsUnlawful p rs bs v)) → IsUnlawful plan rows bytes v
   unlawful_here v h = same_unlawful h.plan plan rows bytes h.over.admitted can.admitted (sym (graphs (λ p rs bs. IsUnlawful p rs bs v) h)) v (found_fact (λ p rs bs. IsUnlawful p rs bs v) h)
 
-  pub audited : (o : Option Fault) → EndsAudit o left can.name can.log contents blocks r w → Audited plan rows bytes o
+  pub audited : (o : Option Fault) → EndsAudit o left can.graph_file can.log contents blocks r w → Audited plan rows bytes o
   audited None k = found (inl refl) (accepted_here k.1)
   audited (Some fault.Write) k = found (inr refl) (accepted_here k.1)
   audited (Some (fault.Unlawful v)) k = refused v refl (unlawful_here v k.1)

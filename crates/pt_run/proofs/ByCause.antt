@@ -4,10 +4,9 @@ use Rattle.pt_audit.specs.LawfulLogs.{IsLawfulLog}
 use Rattle.pt_audit.specs.declared.verdict.Verdict.{Verdict}
 use Rattle.pt_types.specs.declared.graph.Graph.{Graph}
 use Rattle.pt_types.specs.declared.rows.Row.{Row}
-use Rattle.pt_blocks.specs.Blocks.{AreBlocks}
+use Rattle.pt_types.specs.Lawful.{IsLawful}
 use Rattle.pt_blocks.specs.declared.blocks.Named.{Named}
 use Rattle.pt_graph_text.specs.declared.fault.GraphFault.{GraphFault}
-use Rattle.pt_graph.specs.GraphOf.{graph_of}
 use Rattle.pt_causality.specs.Ranked.{IsFreeCycle}
 use Rattle.pt_offsets.specs.Margins.{IsFirstInfeasible}
 use Rattle.pt_sensors.specs.declared.fault.RowFault.{RowFault}
@@ -32,7 +31,8 @@ use Rattle.pt_air.specs.AirOf.{air_of}
 use Rattle.pt_run.specs.Auditing.{Refuses}
 use Rattle.pt_run.specs.Reporting.{paced_run}
 use Rattle.pt_run.specs.Complete.{CanBegin}
-use Rattle.pt_words.specs.Grammar.{Order, over, migrate, audit, replay}
+use Rattle.pt_words.specs.Grammar.{GraphFile, Order, over, migrate, audit, replay}
+use Rattle.pt_run.specs.GraphFiles.{graph_by}
 
 -- memory ran out
 abbrev pub WantsMemory : Option Fault → Type 0
@@ -61,12 +61,12 @@ refused_as (Some (replay graph air workers log)) = Some (over paced_run graph)
 refused_as order = order
 
 -- the words give this order for a graph file whose content is known, and it defines this graph or has this fault
-pub record Defines (order : Option Order) (contents : Contents) (blocks : List Named) (order_for : List ℕ → Order) (defined : Result Graph GraphFault) : Type 0 where
-  pub name : List ℕ
-  pub words : order ≡ Some (order_for name)
+pub record Defines (order : Option Order) (contents : Contents) (blocks : List Named) (order_for : GraphFile → Order) (defined : Result Graph GraphFault) : Type 0 where
+  pub graph_file : GraphFile
+  pub words : order ≡ Some (order_for graph_file)
   pub bytes : List ℕ
-  pub reported : contents name ≡ Some bytes
-  pub defines : graph_of blocks bytes ≡ defined
+  pub reported : contents graph_file.name ≡ Some bytes
+  pub defines : graph_by blocks graph_file bytes ≡ defined
 
 -- the words are this command on a file that defines this graph, in which each cycle takes time; each sender can send in
 -- time, if the command refuses others; and the contents of all sensors' files are known
@@ -79,22 +79,22 @@ pub record ReadsRows (order : Option Order) (contents : Contents) (blocks : List
 -- the words are an audit of a log with this content, on a file that defines the graph of this admitted plan, and a run of it can
 -- begin over these rows
 pub record CanAudit (order : Option Order) (contents : Contents) (blocks : List Named) (plan : Parts) (rows : ℕ → List Row) (bytes : List ℕ) : Type 0 where
-  pub name : List ℕ
+  pub graph_file : GraphFile
   pub log : List ℕ
-  pub words : order ≡ Some (audit name log)
+  pub words : order ≡ Some (audit graph_file log)
   pub admitted : IsAdmitted plan
-  pub begins : CanBegin contents blocks name plan.graph
+  pub begins : CanBegin contents blocks graph_file plan.graph
   pub over : rows ≡ of_run plan.graph begins.rows
   pub reported : contents log ≡ Some bytes
 
 -- the words are a replay with a recording with this content, on a file that defines this graph, and a run of it can begin
 pub record CanReadAir (order : Option Order) (contents : Contents) (blocks : List Named) (g : Graph) (bytes : List ℕ) : Type 0 where
-  pub name : List ℕ
+  pub graph_file : GraphFile
   pub air : List ℕ
   pub workers : ℕ
   pub log : Bool
-  pub words : order ≡ Some (replay name air workers log)
-  pub begins : CanBegin contents blocks name g
+  pub words : order ≡ Some (replay graph_file air workers log)
+  pub begins : CanBegin contents blocks graph_file g
   pub reported : contents air ≡ Some bytes
 
 -- each cause that the words and the known files decide gives its answer
@@ -110,7 +110,7 @@ pub record ComesByCause (outcome : Option Fault) (order : Option Order) (content
   -- with no slacks can each sender send in time, so a ring is named; if with some they can, `slacks` writes the least, unless a
   -- write fails. The blocks are those of a `Blocks`
   pub ring : (g : Graph) → Defines order contents blocks (over Slacks) (Ok g) → NoFreeCycle g → ((slack : ℕ → ℕ) → Admits g slack → ⊥) → ((sends : List ℕ) × (gain : ℕ) × IsRing g sends gain × (outcome ≡ Some (fault.Ring sends gain))) ⊎ WantsGraph outcome
-  pub slacked : (g : Graph) (slack : ℕ → ℕ) → AreBlocks blocks → Defines order contents blocks (over Slacks) (Ok g) → NoFreeCycle g → Admits g slack → ((outcome ≡ None) ⊎ (outcome ≡ Some fault.Write)) ⊎ WantsGraph outcome
+  pub slacked : (g : Graph) (slack : ℕ → ℕ) → IsLawful g → Defines order contents blocks (over Slacks) (Ok g) → NoFreeCycle g → Admits g slack → ((outcome ≡ None) ⊎ (outcome ≡ Some fault.Write)) ⊎ WantsGraph outcome
   -- that sensor is the first without rows: its file has that fault, or that row is late, which `meaning` accepts
   pub sensor : (command : Command) (g : Graph) (actor : ℕ) (f : RowFault) → ReadsRows order contents blocks command g → OfRows command (λ late. SensorFails late contents g actor f) → (outcome ≡ Some (fault.Sensor actor f)) ⊎ WantsRows outcome
   pub late_row : (workers : ℕ) (clock : ClockChoice) (log : Bool) (g : Graph) (actor row seen limit : ℕ) → ReadsRows order contents blocks (Run workers clock log) g → SensorLate contents g actor row seen limit → (outcome ≡ Some (fault.LateRow actor row seen limit)) ⊎ WantsRows outcome

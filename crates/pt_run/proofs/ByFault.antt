@@ -4,7 +4,6 @@ use Rattle.pt_io.specs.Causes.{Appends, AppendsPart, Rose}
 use Rattle.pt_types.specs.declared.graph.Graph.{Graph}
 use Rattle.pt_types.specs.declared.rows.Row.{Row}
 use Rattle.pt_blocks.specs.declared.blocks.Named.{Named}
-use Rattle.pt_graph.specs.GraphOf.{graph_of}
 use Rattle.pt_history.specs.declared.miss.Miss.{Miss}
 use Rattle.pt_semantics.specs.Cycles.{NoFreeCycle}
 use Rattle.pt_semantics.specs.Offsets.{IsFeasible}
@@ -32,9 +31,10 @@ use Rattle.pt_run.specs.Making.{IsMadeRun}
 use Rattle.pt_run.specs.Migrating.{IsMigrated}
 use Rattle.pt_run.specs.Replaying.{LeavesReplay, OnAir}
 use Rattle.pt_run.specs.Runs.{IsOutcomeOver}
-use Rattle.pt_words.specs.Grammar.{Order, over, make, migrate, audit, replay}
+use Rattle.pt_words.specs.Grammar.{GraphFile, Order, over, make, migrate, audit, replay}
 use Rattle.pt_run.specs.Reporting.{paced_run}
 use Rattle.pt_run.specs.Written.{FitOnAll, GraphWith, HasNothing, IsChecked, IsRun, IsTables, Leaves, run_clocks}
+use Rattle.pt_run.specs.GraphFiles.{graph_by}
 
 -- the meaning of the graph and its sensors' rows is too long
 pub record MeansLong (contents : Contents) (g : Graph) : Type 0 where
@@ -60,17 +60,17 @@ abbrev pub Writes : Command → Contents → Graph → Leaves → List ℕ → T
 Writes command contents g left text = NoFreeCycle g × WritesText command contents g left text
 
 -- what a command must write for the graph file with this name, and what it leaves
-abbrev pub WritesOver : Command → Contents → List Named → List ℕ → Leaves → List ℕ → Type 0
-WritesOver command contents blocks name left text = GraphWith contents blocks name (λ g. Writes command contents g left text)
+abbrev pub WritesOver : Command → Contents → List Named → GraphFile → Leaves → List ℕ → Type 0
+WritesOver command contents blocks graph_file left text = GraphWith contents blocks graph_file (λ g. Writes command contents g left text)
 
 -- the bytes written, if known, grew by such a text
-abbrev pub Wrote : Command → Contents → List Named → List ℕ → Leaves → Option (List ℕ) → Option (List ℕ) → Type 0
-Wrote command contents blocks name left before now = (text : List ℕ) × WritesOver command contents blocks name left text × Appends before now text
+abbrev pub Wrote : Command → Contents → List Named → GraphFile → Leaves → Option (List ℕ) → Option (List ℕ) → Type 0
+Wrote command contents blocks graph_file left before now = (text : List ℕ) × WritesOver command contents blocks graph_file left text × Appends before now text
 
 -- the bytes written, if known, grew by a prefix of such a text, and no misses are given
-abbrev pub WrotePart : Command → Contents → List Named → List ℕ → Leaves → Option (List ℕ) → Option (List ℕ) → Type 0
-WrotePart command contents blocks name left before now =
-    (left.misses ≡ []) × (misses : List Miss) × (text : List ℕ) × WritesOver command contents blocks name (record left { misses = misses }) text × AppendsPart before now text
+abbrev pub WrotePart : Command → Contents → List Named → GraphFile → Leaves → Option (List ℕ) → Option (List ℕ) → Type 0
+WrotePart command contents blocks graph_file left before now =
+    (left.misses ≡ []) × (misses : List Miss) × (text : List ℕ) × WritesOver command contents blocks graph_file (record left { misses = misses }) text × AppendsPart before now text
 
 -- a run over the rows of the sensors' files ended with this fault of this platform, and it leaves all platforms as they were
 -- then
@@ -125,40 +125,40 @@ CauseOf command fault.Memory left contents g others r = HasNothing left
 CauseOf command f left contents g others r = NoFreeCycle g × CauseOfText command f left contents g others r
 
 -- why the graph file with this name gave no graph
-abbrev pub CauseOfGraph : Fault → Contents → List Named → List ℕ → SourceCall → Type 0
-CauseOfGraph (fault.Graph f) contents blocks name r = IfSome (contents name) (λ bytes. graph_of blocks bytes ≡ Err f)
-CauseOfGraph (fault.Read None) contents blocks name r = ReadFails [] name r
-CauseOfGraph fault.Memory contents blocks name r = Unit {0}
-CauseOfGraph _ contents blocks name r = ⊥
+abbrev pub CauseOfGraph : Fault → Contents → List Named → GraphFile → SourceCall → Type 0
+CauseOfGraph (fault.Graph f) contents blocks graph_file r = IfSome (contents graph_file.name) (λ bytes. graph_by blocks graph_file bytes ≡ Err f)
+CauseOfGraph (fault.Read None) contents blocks graph_file r = ReadFails [] graph_file.name r
+CauseOfGraph fault.Memory contents blocks graph_file r = Unit {0}
+CauseOfGraph _ contents blocks graph_file r = ⊥
 
 -- why a command on a graph file ended with a fault, and what it leaves: a failed write leaves a prefix of what the command
 -- must write, and every other fault writes nothing
-abbrev pub IsCause : Fault → Leaves → Command → Contents → List Named → List ℕ → SourceCall → SinkCall → Type 0
-IsCause fault.Usage left command contents blocks name r w = ⊥
-IsCause (fault.Graph f) left command contents blocks name r w = CauseOfGraph (fault.Graph f) contents blocks name r × HasNothing left × (w.written_now ≡ w.written_before)
-IsCause (fault.Read None) left command contents blocks name r w = CauseOfGraph (fault.Read None) contents blocks name r × HasNothing left × (w.written_now ≡ w.written_before)
-IsCause fault.Write left command contents blocks name r w = Rose w.before w.now × WrotePart command contents blocks name left w.written_before w.written_now
-IsCause fault.Memory left command contents blocks name r w = HasNothing left × (w.written_now ≡ w.written_before)
-IsCause f left command contents blocks name r w = GraphWith contents blocks name (λ g. CauseOf command f left contents g (name ∷ []) r) × (w.written_now ≡ w.written_before)
+abbrev pub IsCause : Fault → Leaves → Command → Contents → List Named → GraphFile → SourceCall → SinkCall → Type 0
+IsCause fault.Usage left command contents blocks graph_file r w = ⊥
+IsCause (fault.Graph f) left command contents blocks graph_file r w = CauseOfGraph (fault.Graph f) contents blocks graph_file r × HasNothing left × (w.written_now ≡ w.written_before)
+IsCause (fault.Read None) left command contents blocks graph_file r w = CauseOfGraph (fault.Read None) contents blocks graph_file r × HasNothing left × (w.written_now ≡ w.written_before)
+IsCause fault.Write left command contents blocks graph_file r w = Rose w.before w.now × WrotePart command contents blocks graph_file left w.written_before w.written_now
+IsCause fault.Memory left command contents blocks graph_file r w = HasNothing left × (w.written_now ≡ w.written_before)
+IsCause f left command contents blocks graph_file r w = GraphWith contents blocks graph_file (λ g. CauseOf command f left contents g (graph_file.name ∷ []) r) × (w.written_now ≡ w.written_before)
 
 -- how a call ends: out of memory; if the words are not a valid command line, with the usage; else with what the command must
 -- write, or with a fault that has its cause
-abbrev pub EndsBy : Option Fault → Leaves → Option (Command × List ℕ) → Contents → List Named → SourceCall → SinkCall → Type 0
+abbrev pub EndsBy : Option Fault → Leaves → Option (Command × GraphFile) → Contents → List Named → SourceCall → SinkCall → Type 0
 EndsBy (Some fault.Memory) left order contents blocks r w = HasNothing left × (w.written_now ≡ w.written_before)
 EndsBy outcome left None contents blocks r w = (outcome ≡ Some fault.Usage) × HasNothing left × (w.written_now ≡ w.written_before)
 EndsBy None left (Some order) contents blocks r w = Wrote order.0 contents blocks order.1 left w.written_before w.written_now
 EndsBy (Some f) left (Some order) contents blocks r w = IsCause f left order.0 contents blocks order.1 r w
 
 -- such a text of the graph in the file with this name was put, all of it or a part
-abbrev pub PutsMigrated : Contents → List Named → List ℕ → (List ℕ → Type 0) → Type 0
-PutsMigrated contents blocks name Put = GraphWith contents blocks name (λ g. (text : List ℕ) × IsMigrated g blocks text × Put text)
+abbrev pub PutsMigrated : Contents → List Named → GraphFile → (List ℕ → Type 0) → Type 0
+PutsMigrated contents blocks graph_file Put = GraphWith contents blocks graph_file (λ g. (text : List ℕ) × IsMigrated g blocks text × Put text)
 
 -- how the command ends: the text is written, a write fails after a prefix of it, or the graph file gives no graph or memory
 -- runs out, and then nothing is written. No other cause is looked at, so a graph that can't run is written as it is
-abbrev pub EndsMigrated : Option Fault → Leaves → List ℕ → Contents → List Named → SourceCall → SinkCall → Type 0
-EndsMigrated None left name contents blocks r w = HasNothing left × PutsMigrated contents blocks name (Appends w.written_before w.written_now)
-EndsMigrated (Some fault.Write) left name contents blocks r w = HasNothing left × Rose w.before w.now × PutsMigrated contents blocks name (AppendsPart w.written_before w.written_now)
-EndsMigrated (Some f) left name contents blocks r w = HasNothing left × CauseOfGraph f contents blocks name r × (w.written_now ≡ w.written_before)
+abbrev pub EndsMigrated : Option Fault → Leaves → GraphFile → Contents → List Named → SourceCall → SinkCall → Type 0
+EndsMigrated None left graph_file contents blocks r w = HasNothing left × PutsMigrated contents blocks graph_file (Appends w.written_before w.written_now)
+EndsMigrated (Some fault.Write) left graph_file contents blocks r w = HasNothing left × Rose w.before w.now × PutsMigrated contents blocks graph_file (AppendsPart w.written_before w.written_now)
+EndsMigrated (Some f) left graph_file contents blocks r w = HasNothing left × CauseOfGraph f contents blocks graph_file r × (w.written_now ≡ w.written_before)
 
 -- a fault that comes before the last file is read
 abbrev pub is_before_last : Fault → Bool
@@ -173,16 +173,16 @@ is_before_last _ = false
 -- how the command ends: with the line `lawful` for a lawful log, of which a prefix is there if a write fails; with the verdict on
 -- any other log; or with no log. The graph file then defines an admitted graph, and its sensors' files have rows, none of which is
 -- late. It ends with any other fault as a paced run ends with it, before the log is read, unless memory runs out. Nothing is left
-abbrev pub EndsAudit : Option Fault → Leaves → List ℕ → List ℕ → Contents → List Named → SourceCall → SinkCall → Type 0
-EndsAudit None left name log contents blocks r w = HasNothing left × RunWith contents blocks name (OnLog contents log Accepts) × Appends w.written_before w.written_now lawful_line
-EndsAudit (Some fault.Write) left name log contents blocks r w =
-    HasNothing left × RunWith contents blocks name (OnLog contents log Accepts) × Rose w.before w.now × AppendsPart w.written_before w.written_now lawful_line
-EndsAudit (Some (fault.Unlawful v)) left name log contents blocks r w =
-    HasNothing left × RunWith contents blocks name (OnLog contents log (λ plan rows bytes. IsUnlawful plan rows bytes v)) × (w.written_now ≡ w.written_before)
-EndsAudit (Some fault.ReadLog) left name log contents blocks r w =
-    HasNothing left × RunWith contents blocks name (λ plan rows. LastFails plan.graph (name ∷ []) log r) × (w.written_now ≡ w.written_before)
-EndsAudit (Some fault.Memory) left name log contents blocks r w = HasNothing left × (w.written_now ≡ w.written_before)
-EndsAudit (Some f) left name log contents blocks r w = (is_before_last f ≡ true) × HasNothing left × IsCause f left paced_run contents blocks name r w
+abbrev pub EndsAudit : Option Fault → Leaves → GraphFile → List ℕ → Contents → List Named → SourceCall → SinkCall → Type 0
+EndsAudit None left graph_file log contents blocks r w = HasNothing left × RunWith contents blocks graph_file (OnLog contents log Accepts) × Appends w.written_before w.written_now lawful_line
+EndsAudit (Some fault.Write) left graph_file log contents blocks r w =
+    HasNothing left × RunWith contents blocks graph_file (OnLog contents log Accepts) × Rose w.before w.now × AppendsPart w.written_before w.written_now lawful_line
+EndsAudit (Some (fault.Unlawful v)) left graph_file log contents blocks r w =
+    HasNothing left × RunWith contents blocks graph_file (OnLog contents log (λ plan rows bytes. IsUnlawful plan rows bytes v)) × (w.written_now ≡ w.written_before)
+EndsAudit (Some fault.ReadLog) left graph_file log contents blocks r w =
+    HasNothing left × RunWith contents blocks graph_file (λ plan rows. LastFails plan.graph (graph_file.name ∷ []) log r) × (w.written_now ≡ w.written_before)
+EndsAudit (Some fault.Memory) left graph_file log contents blocks r w = HasNothing left × (w.written_now ≡ w.written_before)
+EndsAudit (Some f) left graph_file log contents blocks r w = (is_before_last f ≡ true) × HasNothing left × IsCause f left paced_run contents blocks graph_file r w
 
 -- how a replay ends, for an admitted plan of its graph and rows of its sensors, none of which is late (`With`): the platforms ran,
 -- with the lags and transits that the file `air` says; or that file has a fault, or could not be read, and nothing is left. It ends
@@ -198,8 +198,8 @@ EndsInAir With Other others (Some fault.Memory) left air log contents r w = HasN
 EndsInAir With Other others (Some f) left air log contents r w = (is_before_last f ≡ true) × HasNothing left × Other f
 
 -- how a replay over the graph file with this name ends
-abbrev pub EndsReplay : Option Fault → Leaves → List ℕ → List ℕ → Bool → Contents → List Named → SourceCall → SinkCall → Type 0
-EndsReplay outcome left name air log contents blocks r w = EndsInAir (RunWith contents blocks name) (λ f. IsCause f left paced_run contents blocks name r w) (name ∷ []) outcome left air log contents r w
+abbrev pub EndsReplay : Option Fault → Leaves → GraphFile → List ℕ → Bool → Contents → List Named → SourceCall → SinkCall → Type 0
+EndsReplay outcome left graph_file air log contents blocks r w = EndsInAir (RunWith contents blocks graph_file) (λ f. IsCause f left paced_run contents blocks graph_file r w) (graph_file.name ∷ []) outcome left air log contents r w
 
 -- how such a run ends: its text is written, a write fails after a prefix of it, or memory runs out
 abbrev pub EndsMade : Option Fault → Leaves → ℕ → SinkCall → Type 0

@@ -5,7 +5,6 @@ use Rattle.pt_io.specs.Causes.{Appends}
 use Rattle.pt_types.specs.declared.graph.Graph.{Graph}
 use Rattle.pt_blocks.specs.declared.blocks.Named.{Named}
 use Rattle.pt_graph_text.specs.declared.fault.GraphFault.{GraphFault}
-use Rattle.pt_graph.specs.GraphOf.{graph_of}
 use Rattle.pt_causality.specs.Ranked.{IsFreeCycle}
 use Rattle.pt_semantics.specs.Cycles.{NoFreeCycle}
 use Rattle.pt_semantics.specs.Offsets.{IsFeasible}
@@ -24,7 +23,7 @@ use Rattle.pt_run.proofs.ByCause.{ComesByCause, Defines, ReadsRows, WantsGraph, 
 use Rattle.pt_run.specs.RunsAgreeing.{ReportsSensors}
 use Rattle.pt_run.specs.Runs.{IsOutcomeOver, IsFinishedRun}
 use Rattle.pt_run.specs.Statuses.{status_of, status_of_fault}
-use Rattle.pt_words.specs.Grammar.{over}
+use Rattle.pt_words.specs.Grammar.{GraphFile, over}
 use Rattle.pt_run.specs.Written.{HasNothing, Leaves, run_clocks, has_run, stop_of}
 use Rattle.pt_run.specs.declared.fault.Fault.{Fault}
 use Rattle.pt_run.specs.declared.fault.Fault.TheVariants as fault
@@ -34,6 +33,7 @@ use Rattle.pt_run.proofs.DueEnds.{due_ends}
 use Rattle.pt_run.proofs.Exact.{exact}
 use Rattle.pt_run.proofs.RunsAgreeing.{runs_agree, texts_agree}
 use Rattle.pt_run.proofs.StepsAgreeing.{step_runs}
+use Rattle.pt_run.specs.GraphFiles.{graph_by}
 
 -- a file with known content
 pub of_bytes : (reported : Option (List ℕ)) (bytes : List ℕ) (Fact : List ℕ → Type 0) → reported ≡ Some bytes → IfSome reported Fact → Fact bytes
@@ -66,13 +66,13 @@ no_graph o calm wants = ⊎_elim (λ (e : o ≡ Some fault.Memory). not_memory o
 no_rows : (o : Option Fault) → IsUndisturbed o → WantsRows o → ⊥
 no_rows o calm wants = ⊎_elim (λ (h : WantsGraph o). no_graph o calm h) (λ (h : (actor : ℕ) × (o ≡ Some (fault.Read (Some actor)))). not_read o (Some h.0) calm h.1) wants
 
-module _ (clock : ClockChoice) (log : Bool) (contents : Contents) (blocks : List Named) (name : List ℕ) (all : ReportsAll contents blocks name) where
+module _ (clock : ClockChoice) (log : Bool) (contents : Contents) (blocks : List Named) (graph_file : GraphFile) (all : ReportsAll contents blocks graph_file) where
   -- a call that had a run and wrote all of its text, which is none if a platform stopped the run
   record Runs (workers : ℕ) (o : Option Fault) (left : Leaves) (w : SinkCall) : Type 0 where
     ran : has_run o ≡ true
     is : o ≡ answer_of (stop_of o)
     plan : Parts
-    file : graph_of blocks all.bytes ≡ Ok plan.graph
+    file : graph_by blocks graph_file all.bytes ≡ Ok plan.graph
     run : IsOutcomeOver contents (run_clocks workers clock left) plan left.platforms (stop_of o)
     text : List ℕ
     wrote : Appends w.written_before w.written_now text
@@ -81,7 +81,7 @@ module _ (clock : ClockChoice) (log : Bool) (contents : Contents) (blocks : List
 
   -- the answer of any other undisturbed call has the same status
   abbrev Decides : Fault → Type 0
-  Decides f = (workers : ℕ) (o : Option Fault) → ComesByCause o (Some (over (Run workers clock log) name)) contents blocks → IsUndisturbed o → (e : Fault) × (o ≡ Some e) × (status_of_fault e ≡ status_of_fault f) × (has_run (Some e) ≡ false)
+  Decides f = (workers : ℕ) (o : Option Fault) → ComesByCause o (Some (over (Run workers clock log) graph_file)) contents blocks → IsUndisturbed o → (e : Fault) × (o ≡ Some e) × (status_of_fault e ≡ status_of_fault f) × (has_run (Some e) ≡ false)
 
   -- a call that was refused for a cause in its files
   record Refuses (o : Option Fault) (left : Leaves) (w : SinkCall) : Type 0 where
@@ -93,15 +93,15 @@ module _ (clock : ClockChoice) (log : Bool) (contents : Contents) (blocks : List
     decides : Decides answer
 
   -- of such causes
-  defines : (workers : ℕ) (defined : Result Graph GraphFault) → IfSome (contents name) (λ bytes. graph_of blocks bytes ≡ defined) → Defines (Some (over (Run workers clock log) name)) contents blocks (over (Run workers clock log)) defined
-  defines workers defined file = record { name = name; words = refl; bytes = all.bytes; reported = all.reported; defines = of_bytes (contents name) all.bytes (λ bytes. graph_of blocks bytes ≡ defined) all.reported file }
+  defines : (workers : ℕ) (defined : Result Graph GraphFault) → IfSome (contents graph_file.name) (λ bytes. graph_by blocks graph_file bytes ≡ defined) → Defines (Some (over (Run workers clock log) graph_file)) contents blocks (over (Run workers clock log)) defined
+  defines workers defined file = record { graph_file = graph_file; words = refl; bytes = all.bytes; reported = all.reported; defines = of_bytes (contents graph_file.name) all.bytes (λ bytes. graph_by blocks graph_file bytes ≡ defined) all.reported file }
 
-  reads : (workers : ℕ) (g : Graph) → IfSome (contents name) (λ bytes. graph_of blocks bytes ≡ Ok g) → NoFreeCycle g → IsFeasible g → ReadsRows (Some (over (Run workers clock log) name)) contents blocks (Run workers clock log) g
+  reads : (workers : ℕ) (g : Graph) → IfSome (contents graph_file.name) (λ bytes. graph_by blocks graph_file bytes ≡ Ok g) → NoFreeCycle g → IsFeasible g → ReadsRows (Some (over (Run workers clock log) graph_file)) contents blocks (Run workers clock log) g
   reads workers g file free feasible = record {
     graph = defines workers (Ok g) file;
     no_free_cycle = free;
     feasible = λ e. feasible;
-    files = all.files g (of_bytes (contents name) all.bytes (λ bytes. graph_of blocks bytes ≡ Ok g) all.reported file);
+    files = all.files g (of_bytes (contents graph_file.name) all.bytes (λ bytes. graph_by blocks graph_file bytes ≡ Ok g) all.reported file);
   }
 
   -- the answer is that cause
@@ -110,13 +110,13 @@ module _ (clock : ClockChoice) (log : Bool) (contents : Contents) (blocks : List
 
   module _ (workers : ℕ) (left : Leaves) (r : SourceCall) (w : SinkCall) where
     -- a platform stopped the run
-    halted : (o : Option Fault) (g : Graph) → o ≡ answer_of (stop_of o) → has_run o ≡ true → (o ≡ None → ⊥) → IfSome (contents name) (λ bytes. graph_of blocks bytes ≡ Ok g) → (plan : Parts) → plan.graph ≡ g → IsOutcomeOver contents (run_clocks workers clock left) plan left.platforms (stop_of o) →
+    halted : (o : Option Fault) (g : Graph) → o ≡ answer_of (stop_of o) → has_run o ≡ true → (o ≡ None → ⊥) → IfSome (contents graph_file.name) (λ bytes. graph_by blocks graph_file bytes ≡ Ok g) → (plan : Parts) → plan.graph ≡ g → IsOutcomeOver contents (run_clocks workers clock left) plan left.platforms (stop_of o) →
         left.misses ≡ [] → w.written_now ≡ w.written_before → Runs workers o left w
     halted o g is ran some file plan graph run none same = record {
       ran = ran;
       is = is;
       plan = plan;
-      file = of_bytes (contents name) all.bytes (λ bytes. graph_of blocks bytes ≡ Ok plan.graph) all.reported (subst (λ (h : Graph). IfSome (contents name) (λ bytes. graph_of blocks bytes ≡ Ok h)) (sym graph) file);
+      file = of_bytes (contents graph_file.name) all.bytes (λ bytes. graph_by blocks graph_file bytes ≡ Ok plan.graph) all.reported (subst (λ (h : Graph). IfSome (contents graph_file.name) (λ bytes. graph_by blocks graph_file bytes ≡ Ok h)) (sym graph) file);
       run = run;
       text = [];
       wrote = nothing_more w.written_before w.written_now same;
@@ -128,12 +128,12 @@ module _ (clock : ClockChoice) (log : Bool) (contents : Contents) (blocks : List
     refused f none nothing same decides = record { answer = f; is = refl; none = none; nothing = nothing; same = same; decides = decides }
 
     -- each undisturbed call is one of the two
-    classify : (o : Option Fault) → EndsBy o left (Some (Run workers clock log, name)) contents blocks r w → IsUndisturbed o → Runs workers o left w ⊎ Refuses o left w
+    classify : (o : Option Fault) → EndsBy o left (Some (Run workers clock log, graph_file)) contents blocks r w → IsUndisturbed o → Runs workers o left w ⊎ Refuses o left w
     classify None (text, (g, file, (free, run)), appends) calm = inl (record {
       ran = refl;
       is = refl;
       plan = run.plan;
-      file = of_bytes (contents name) all.bytes (λ bytes. graph_of blocks bytes ≡ Ok run.plan.graph) all.reported (subst (λ (h : Graph). IfSome (contents name) (λ bytes. graph_of blocks bytes ≡ Ok h)) (sym run.graph) file);
+      file = of_bytes (contents graph_file.name) all.bytes (λ bytes. graph_by blocks graph_file bytes ≡ Ok run.plan.graph) all.reported (subst (λ (h : Graph). IfSome (contents graph_file.name) (λ bytes. graph_by blocks graph_file bytes ≡ Ok h)) (sym run.graph) file);
       run = run.finished.run;
       text = text;
       wrote = appends;
@@ -225,30 +225,30 @@ module _ (clock : ClockChoice) (log : Bool) (contents : Contents) (blocks : List
   not_both o e is never ran = false≢true (sym never ∙ sym (ap has_run is) ∙ ran)
 
 pub calls_agree : CallsAgree
-calls_agree workers others clock log contents blocks name a b all calm still few small due more =
+calls_agree workers others clock log contents blocks graph_file a b all calm still few small due more =
     ⊎_elim
-    (λ (h : Runs clock log contents blocks name all workers a.fault a.left a.wrote).
+    (λ (h : Runs clock log contents blocks graph_file all workers a.fault a.left a.wrote).
     ⊎_elim
-    (λ (k : Runs clock log contents blocks name all others b.fault b.left b.wrote).
-    let alike = ran_alike clock log contents blocks name all workers others a.fault b.fault a.left b.left a.read b.read a.wrote b.wrote h k few small in
-    runs_alike clock log contents blocks name all workers others a.fault b.fault a.left b.left a.read b.read a.wrote b.wrote h k alike.0 alike.1)
-    (λ (k : Refuses clock log contents blocks name all b.fault b.left b.wrote).
-    let (e, is, status, never) = k.decides workers a.fault (exact a.fault a.left (Some (over (Run workers clock log) name)) contents blocks a.read a.wrote ends) calm in
-    absurd (not_both clock log contents blocks name all a.fault e is never h.ran))
+    (λ (k : Runs clock log contents blocks graph_file all others b.fault b.left b.wrote).
+    let alike = ran_alike clock log contents blocks graph_file all workers others a.fault b.fault a.left b.left a.read b.read a.wrote b.wrote h k few small in
+    runs_alike clock log contents blocks graph_file all workers others a.fault b.fault a.left b.left a.read b.read a.wrote b.wrote h k alike.0 alike.1)
+    (λ (k : Refuses clock log contents blocks graph_file all b.fault b.left b.wrote).
+    let (e, is, status, never) = k.decides workers a.fault (exact a.fault a.left (Some (over (Run workers clock log) graph_file)) contents blocks a.read a.wrote ends) calm in
+    absurd (not_both clock log contents blocks graph_file all a.fault e is never h.ran))
     other)
-    (λ (h : Refuses clock log contents blocks name all a.fault a.left a.wrote).
-    let (e, is, status, never) = h.decides others b.fault (exact b.fault b.left (Some (over (Run others clock log) name)) contents blocks b.read b.wrote more_ends) still in
+    (λ (h : Refuses clock log contents blocks graph_file all a.fault a.left a.wrote).
+    let (e, is, status, never) = h.decides others b.fault (exact b.fault b.left (Some (over (Run others clock log) graph_file)) contents blocks b.read b.wrote more_ends) still in
     ⊎_elim
-    (λ (k : Runs clock log contents blocks name all others b.fault b.left b.wrote). absurd (not_both clock log contents blocks name all b.fault e is never k.ran))
-    (λ (k : Refuses clock log contents blocks name all b.fault b.left b.wrote). refused_alike clock log contents blocks name all a.fault b.fault a.left b.left a.read b.read a.wrote b.wrote h k e is status)
+    (λ (k : Runs clock log contents blocks graph_file all others b.fault b.left b.wrote). absurd (not_both clock log contents blocks graph_file all b.fault e is never k.ran))
+    (λ (k : Refuses clock log contents blocks graph_file all b.fault b.left b.wrote). refused_alike clock log contents blocks graph_file all a.fault b.fault a.left b.left a.read b.read a.wrote b.wrote h k e is status)
     other)
-    (classify clock log contents blocks name all workers a.left a.read a.wrote a.fault ends calm)
+    (classify clock log contents blocks graph_file all workers a.left a.read a.wrote a.fault ends calm)
   where
-    ends : EndsBy a.fault a.left (Some (Run workers clock log, name)) contents blocks a.read a.wrote
-    ends = due_ends contents blocks a (Some (over (Run workers clock log) name)) due
+    ends : EndsBy a.fault a.left (Some (Run workers clock log, graph_file)) contents blocks a.read a.wrote
+    ends = due_ends contents blocks a (Some (over (Run workers clock log) graph_file)) due
 
-    more_ends : EndsBy b.fault b.left (Some (Run others clock log, name)) contents blocks b.read b.wrote
-    more_ends = due_ends contents blocks b (Some (over (Run others clock log) name)) more
+    more_ends : EndsBy b.fault b.left (Some (Run others clock log, graph_file)) contents blocks b.read b.wrote
+    more_ends = due_ends contents blocks b (Some (over (Run others clock log) graph_file)) more
 
-    other : Runs clock log contents blocks name all others b.fault b.left b.wrote ⊎ Refuses clock log contents blocks name all b.fault b.left b.wrote
-    other = classify clock log contents blocks name all others b.left b.read b.wrote b.fault more_ends still
+    other : Runs clock log contents blocks graph_file all others b.fault b.left b.wrote ⊎ Refuses clock log contents blocks graph_file all b.fault b.left b.wrote
+    other = classify clock log contents blocks graph_file all others b.left b.read b.wrote b.fault more_ends still

@@ -6,7 +6,6 @@ use Rattle.pt_types.specs.declared.graph.Graph.{Graph}
 use Rattle.pt_audit.specs.declared.verdict.Verdict.{Verdict}
 use Rattle.pt_blocks.specs.declared.blocks.Named.{Named}
 use Rattle.pt_graph_text.specs.declared.fault.GraphFault.{GraphFault}
-use Rattle.pt_graph.specs.GraphOf.{graph_of}
 use Rattle.pt_causality.specs.Ranked.{IsFreeCycle}
 use Rattle.pt_offsets.specs.Margins.{IsFirstInfeasible}
 use Rattle.pt_sensors.specs.declared.fault.RowFault.{RowFault}
@@ -32,39 +31,40 @@ use Rattle.pt_air.specs.declared.fault.AirFault.{AirFault}
 use Rattle.pt_air.specs.AirOf.{air_of}
 use Rattle.pt_run.specs.Leaving.{RunWith}
 use Rattle.pt_run.specs.Replaying.{OnAir}
-use Rattle.pt_words.specs.Grammar.{Order, over, make, migrate, audit, replay}
+use Rattle.pt_words.specs.Grammar.{GraphFile, Order, over, make, migrate, audit, replay}
 use Rattle.pt_run.specs.Reporting.{paced_run}
 use Rattle.pt_run.specs.Complete.{OnPlatform}
 use Rattle.pt_run.specs.Written.{GraphWith, Leaves}
 use Rattle.pt_run.proofs.ByFault.{MeansLong}
+use Rattle.pt_run.specs.GraphFiles.{graph_by}
 
 -- the words are a command on a graph file, `migrate`, `audit` and `replay` included, and a fact holds of the file's name
-abbrev pub OverFile : Option Order → (List ℕ → Type 0) → Type 0
+abbrev pub OverFile : Option Order → (GraphFile → Type 0) → Type 0
 OverFile None Fact = ⊥
 OverFile (Some (make number workers)) Fact = ⊥
-OverFile (Some (migrate name)) Fact = Fact name
-OverFile (Some (audit name log)) Fact = Fact name
-OverFile (Some (replay name air workers log)) Fact = Fact name
-OverFile (Some (over command name)) Fact = Fact name
+OverFile (Some (migrate graph_file)) Fact = Fact graph_file
+OverFile (Some (audit graph_file log)) Fact = Fact graph_file
+OverFile (Some (replay graph_file air workers log)) Fact = Fact graph_file
+OverFile (Some (over command graph_file)) Fact = Fact graph_file
 
 -- they are a command that needs more of the graph than its text, and a fact holds of the command, the file's name and the graph
 -- that the file defines. An audit and a replay refuse what a paced run refuses, so a fact of them is one of such a run
-abbrev pub OverGraph : Option Order → Contents → List Named → (Command → List ℕ → Graph → Type 0) → Type 0
+abbrev pub OverGraph : Option Order → Contents → List Named → (Command → GraphFile → Graph → Type 0) → Type 0
 OverGraph None contents blocks Fact = ⊥
 OverGraph (Some (make number workers)) contents blocks Fact = ⊥
-OverGraph (Some (migrate name)) contents blocks Fact = ⊥
-OverGraph (Some (over command name)) contents blocks Fact = GraphWith contents blocks name (Fact command name)
-OverGraph (Some (audit name log)) contents blocks Fact = GraphWith contents blocks name (Fact paced_run name)
-OverGraph (Some (replay name air workers log)) contents blocks Fact = GraphWith contents blocks name (Fact paced_run name)
+OverGraph (Some (migrate graph_file)) contents blocks Fact = ⊥
+OverGraph (Some (over command graph_file)) contents blocks Fact = GraphWith contents blocks graph_file (Fact command graph_file)
+OverGraph (Some (audit graph_file log)) contents blocks Fact = GraphWith contents blocks graph_file (Fact paced_run graph_file)
+OverGraph (Some (replay graph_file air workers log)) contents blocks Fact = GraphWith contents blocks graph_file (Fact paced_run graph_file)
 
 -- they are an audit, and a fact holds of the names of the graph file and of the log
-abbrev pub OverLog : Option Order → (List ℕ → List ℕ → Type 0) → Type 0
-OverLog (Some (audit name log)) Fact = Fact name log
+abbrev pub OverLog : Option Order → (GraphFile → List ℕ → Type 0) → Type 0
+OverLog (Some (audit graph_file log)) Fact = Fact graph_file log
 OverLog _ Fact = ⊥
 
 -- they are a replay, and a fact holds of the names of the graph file and of the recording
-abbrev pub OverAir : Option Order → (List ℕ → List ℕ → Type 0) → Type 0
-OverAir (Some (replay name air workers log)) Fact = Fact name air
+abbrev pub OverAir : Option Order → (GraphFile → List ℕ → Type 0) → Type 0
+OverAir (Some (replay graph_file air workers log)) Fact = Fact graph_file air
 OverAir _ Fact = ⊥
 
 -- a run, by whatever clock
@@ -100,34 +100,34 @@ pub record CauseTable (status : ℕ) (outcome : Option Fault) (left : Leaves) (o
   -- the words are not a valid command line
   pub usage : outcome ≡ Some fault.Usage → order ≡ None
   -- the graph file could not be read, its text has that fault, or those actors are a cycle that takes no time
-  pub graph_unread : outcome ≡ Some (fault.Read None) → OverFile order (λ name. ReadFails [] name r)
-  pub graph : (f : GraphFault) → outcome ≡ Some (fault.Graph f) → OverFile order (λ name. IfSome (contents name) (λ bytes. graph_of blocks bytes ≡ Err f))
-  pub cycle : (actors : List ℕ) → outcome ≡ Some (fault.Cycle actors) → OverGraph order contents blocks (λ command name g. IsFreeCycle g actors)
+  pub graph_unread : outcome ≡ Some (fault.Read None) → OverFile order (λ graph_file. ReadFails [] graph_file.name r)
+  pub graph : (f : GraphFault) → outcome ≡ Some (fault.Graph f) → OverFile order (λ graph_file. IfSome (contents graph_file.name) (λ bytes. graph_by blocks graph_file bytes ≡ Err f))
+  pub cycle : (actors : List ℕ) → outcome ≡ Some (fault.Cycle actors) → OverGraph order contents blocks (λ command graph_file g. IsFreeCycle g actors)
   -- that sender is the first that can't send in time, and the command refuses it
-  pub infeasible : (send : ℕ) (offset : ℤ) (slack : ℕ) → outcome ≡ Some (fault.Infeasible send offset slack) → OverGraph order contents blocks (λ command name g. AsksFeasible command × NoFreeCycle g × IsFirstInfeasible g send offset slack)
+  pub infeasible : (send : ℕ) (offset : ℤ) (slack : ℕ) → outcome ≡ Some (fault.Infeasible send offset slack) → OverGraph order contents blocks (λ command graph_file g. AsksFeasible command × NoFreeCycle g × IsFirstInfeasible g send offset slack)
   -- whatever the slacks of these senders, one of them can't send in time
-  pub ring : (sends : List ℕ) (gain : ℕ) → outcome ≡ Some (fault.Ring sends gain) → OverGraph order contents blocks (λ command name g. (command ≡ Slacks) × NoFreeCycle g × IsRing g sends gain)
+  pub ring : (sends : List ℕ) (gain : ℕ) → outcome ≡ Some (fault.Ring sends gain) → OverGraph order contents blocks (λ command graph_file g. (command ≡ Slacks) × NoFreeCycle g × IsRing g sends gain)
   -- that sensor is the first without rows: its file could not be read, the file has that fault, or that row is late
-  pub sensor_unread : (actor : ℕ) → outcome ≡ Some (fault.Read (Some actor)) → OverGraph order contents blocks (λ command name g. IsAccepted command g × OfRows command (λ late. SensorUnread late contents g actor (name ∷ []) r))
-  pub sensor : (actor : ℕ) (f : RowFault) → outcome ≡ Some (fault.Sensor actor f) → OverGraph order contents blocks (λ command name g. IsAccepted command g × OfRows command (λ late. SensorFails late contents g actor f))
-  pub late_row : (actor row seen limit : ℕ) → outcome ≡ Some (fault.LateRow actor row seen limit) → OverGraph order contents blocks (λ command name g. IsRunCommand command × IsAccepted command g × SensorLate contents g actor row seen limit)
+  pub sensor_unread : (actor : ℕ) → outcome ≡ Some (fault.Read (Some actor)) → OverGraph order contents blocks (λ command graph_file g. IsAccepted command g × OfRows command (λ late. SensorUnread late contents g actor (graph_file.name ∷ []) r))
+  pub sensor : (actor : ℕ) (f : RowFault) → outcome ≡ Some (fault.Sensor actor f) → OverGraph order contents blocks (λ command graph_file g. IsAccepted command g × OfRows command (λ late. SensorFails late contents g actor f))
+  pub late_row : (actor row seen limit : ℕ) → outcome ≡ Some (fault.LateRow actor row seen limit) → OverGraph order contents blocks (λ command graph_file g. IsRunCommand command × IsAccepted command g × SensorLate contents g actor row seen limit)
   -- the recorded turns of that platform end with that late message, which no paced run meets; or they made all claims that a
   -- platform may make, and a unit is still safe; or the meaning is too long
   pub late_message : (platform actor : ℕ) (tag : Tag) (reading limit : ℕ) → outcome ≡ Some (fault.LateMessage platform actor tag reading limit) →
-      OverGraph order contents blocks (λ command name g. IsNotPaced command × IsAccepted command g × OnPlatform left g platform (λ v. ShowsLate g v.turns actor tag reading limit))
-  pub long : (platform : ℕ) → outcome ≡ Some (fault.Long (Some platform)) → OverGraph order contents blocks (λ command name g. IsRunCommand command × IsAccepted command g × OnPlatform left g platform (λ v. ShowsLong g (state_at v)))
-  pub long_meaning : outcome ≡ Some (fault.Long None) → OverGraph order contents blocks (λ command name g. (command ≡ Meaning) × NoFreeCycle g × MeansLong contents g)
+      OverGraph order contents blocks (λ command graph_file g. IsNotPaced command × IsAccepted command g × OnPlatform left g platform (λ v. ShowsLate g v.turns actor tag reading limit))
+  pub long : (platform : ℕ) → outcome ≡ Some (fault.Long (Some platform)) → OverGraph order contents blocks (λ command graph_file g. IsRunCommand command × IsAccepted command g × OnPlatform left g platform (λ v. ShowsLong g (state_at v)))
+  pub long_meaning : outcome ≡ Some (fault.Long None) → OverGraph order contents blocks (λ command graph_file g. (command ≡ Meaning) × NoFreeCycle g × MeansLong contents g)
   -- the log could not be read; or it is refused by that verdict and no other, and is no lawful log. If the audit of a log writes
   -- all, the log is lawful, and no verdict refuses it
-  pub log_unread : outcome ≡ Some fault.ReadLog → OverLog order (λ name log. RunWith contents blocks name (λ plan rows. LastFails plan.graph (name ∷ []) log r))
-  pub unlawful : (v : Verdict) → outcome ≡ Some (fault.Unlawful v) → OverLog order (λ name log. RunWith contents blocks name (OnLog contents log (λ plan rows bytes. IsUnlawful plan rows bytes v)))
-  pub lawful : (name log : List ℕ) → order ≡ Some (audit name log) → outcome ≡ None → RunWith contents blocks name (OnLog contents log Accepts)
+  pub log_unread : outcome ≡ Some fault.ReadLog → OverLog order (λ graph_file log. RunWith contents blocks graph_file (λ plan rows. LastFails plan.graph (graph_file.name ∷ []) log r))
+  pub unlawful : (v : Verdict) → outcome ≡ Some (fault.Unlawful v) → OverLog order (λ graph_file log. RunWith contents blocks graph_file (OnLog contents log (λ plan rows bytes. IsUnlawful plan rows bytes v)))
+  pub lawful : (graph_file : GraphFile) (log : List ℕ) → order ≡ Some (audit graph_file log) → outcome ≡ None → RunWith contents blocks graph_file (OnLog contents log Accepts)
   -- the recording could not be read, or its text has that fault; or the recorded turns of that platform end with that late message,
   -- and that row of the recording is the first that breaks a stated bound
-  pub air_unread : outcome ≡ Some fault.ReadAir → OverAir order (λ name air. RunWith contents blocks name (λ plan rows. LastFails plan.graph (name ∷ []) air r))
-  pub air : (f : AirFault) → outcome ≡ Some (fault.Air f) → OverAir order (λ name air. RunWith contents blocks name (λ plan rows. IfSome (contents air) (λ bytes. air_of plan.graph bytes ≡ Err f)))
+  pub air_unread : outcome ≡ Some fault.ReadAir → OverAir order (λ graph_file air. RunWith contents blocks graph_file (λ plan rows. LastFails plan.graph (graph_file.name ∷ []) air r))
+  pub air : (f : AirFault) → outcome ≡ Some (fault.Air f) → OverAir order (λ graph_file air. RunWith contents blocks graph_file (λ plan rows. IfSome (contents air) (λ bytes. air_of plan.graph bytes ≡ Err f)))
   pub late_air : (platform actor : ℕ) (tag : Tag) (reading limit row : ℕ) → outcome ≡ Some (fault.LateAir platform actor tag reading limit row) →
-      OverAir order (λ name air. RunWith contents blocks name (OnAir contents air (λ plan rows recorded. (recorded.breach ≡ Some row) × OnPlatform left plan.graph platform (λ v. ShowsLate plan.graph v.turns actor tag reading limit))))
+      OverAir order (λ graph_file air. RunWith contents blocks graph_file (OnAir contents air (λ plan rows recorded. (recorded.breach ≡ Some row) × OnPlatform left plan.graph platform (λ v. ShowsLate plan.graph v.turns actor tag reading limit))))
   -- the sink's count of faults rose; with any other fault nothing is written
   pub write : outcome ≡ Some fault.Write → Rose w.before w.now
   pub unwritten : (f : Fault) → outcome ≡ Some f → f ≢ fault.Write → w.written_now ≡ w.written_before

@@ -11,7 +11,6 @@ use Rattle.pt_types.specs.declared.firing.ActorFiring.{ActorFiring}
 use Rattle.pt_types.specs.declared.rows.Row.{Row}
 use Rattle.pt_blocks.specs.declared.blocks.Named.{Named}
 use Rattle.pt_graph_text.specs.declared.fault.GraphFault.{GraphFault}
-use Rattle.pt_graph.specs.GraphOf.{graph_of}
 use Rattle.pt_history.specs.declared.miss.Miss.{Miss}
 use Rattle.pt_sensors.specs.declared.fault.RowFault.{RowFault}
 use Rattle.pt_sensors.specs.Late.{late_row}
@@ -51,7 +50,9 @@ use Rattle.pt_words.specs.declared.orders.ClockChoice.{ClockChoice}
 use Rattle.pt_words.specs.declared.orders.ClockChoice.TheVariants.{Paced}
 use Rattle.pt_run.specs.Readings.{RunClocks}
 use Rattle.pt_run.specs.Statuses.{status_of}
-use Rattle.pt_words.specs.Grammar.{Order}
+use Rattle.pt_words.specs.Grammar.{GraphFile, Order}
+use Rattle.pt_run.specs.GraphFiles.{graph_by}
+use Rattle.pt_sensors.specs.Limits.{file_limits}
 
 -- what a file with known content defines is one
 pub agrees : {R : Type 0} (read : List ℕ → R) (reported : Option (List ℕ)) (bytes : List ℕ) (o p : R) → reported ≡ Some bytes → IfSome reported (λ bytes. read bytes ≡ o) → IfSome reported (λ bytes. read bytes ≡ p) → o ≡ p
@@ -85,39 +86,39 @@ by_platform status g xs platform is within over = inr (inr (inl (is, λ few. cla
     clash : (n : ℕ) → g.claims < n → n ≤ g.claims → ⊥
     clash n over le = omega arith
 
-module _ (contents : Contents) (blocks : List Named) (name : List ℕ) (g : Graph) (can : CanBegin contents blocks name g) where
-  read : IfSome (contents name) (λ bytes. graph_of blocks bytes ≡ Ok g)
-  read = subst (λ reported. IfSome reported (λ bytes. graph_of blocks bytes ≡ Ok g)) (sym can.reported) can.graph
+module _ (contents : Contents) (blocks : List Named) (graph_file : GraphFile) (g : Graph) (can : CanBegin contents blocks graph_file g) where
+  read : IfSome (contents graph_file.name) (λ bytes. graph_by blocks graph_file bytes ≡ Ok g)
+  read = subst (λ reported. IfSome reported (λ bytes. graph_by blocks graph_file bytes ≡ Ok g)) (sym can.reported) can.graph
 
   -- a graph that the file defines is this one, and it has no fault
-  pub this_graph : (h : Graph) → IfSome (contents name) (λ bytes. graph_of blocks bytes ≡ Ok h) → h ≡ g
-  this_graph h other = sym (same_ok {E = GraphFault} g h (agrees (graph_of blocks) (contents name) can.bytes (Ok g) (Ok h) can.reported read other))
+  pub this_graph : (h : Graph) → IfSome (contents graph_file.name) (λ bytes. graph_by blocks graph_file bytes ≡ Ok h) → h ≡ g
+  this_graph h other = sym (same_ok {E = GraphFault} g h (agrees (graph_by blocks graph_file) (contents graph_file.name) can.bytes (Ok g) (Ok h) can.reported read other))
 
-  pub no_fault : (f : GraphFault) → IfSome (contents name) (λ bytes. graph_of blocks bytes ≡ Err f) → ⊥
-  no_fault f other = ok_err g f (agrees (graph_of blocks) (contents name) can.bytes (Ok g) (Err f) can.reported read other)
+  pub no_fault : (f : GraphFault) → IfSome (contents graph_file.name) (λ bytes. graph_by blocks graph_file bytes ≡ Err f) → ⊥
+  no_fault f other = ok_err g f (agrees (graph_by blocks graph_file) (contents graph_file.name) can.bytes (Ok g) (Err f) can.reported read other)
 
   -- no sensor's file has a fault, and no row is late
-  of_sensor : (a : ℕ) (file : List ℕ) (bound : ℕ) → kind_of g a ≡ Sensor file bound → IfSome (contents file) (λ bytes. rows_of bytes ≡ Ok (can.rows a))
-  of_sensor a file bound kind = subst (λ (k : Kind). RowsOfKind contents k (can.rows a)) kind (can.sensors a)
+  of_sensor : (a : ℕ) (file : List ℕ) (bound : ℕ) → kind_of g a ≡ Sensor file bound → IfSome (contents file) (λ bytes. rows_of (file_limits g.claims) bytes ≡ Ok (can.rows a))
+  of_sensor a file bound kind = subst (λ (k : Kind). RowsOfKind (file_limits g.claims) contents k (can.rows a)) kind (can.sensors a)
 
   pub sensor_fails : (actor : ℕ) (f : RowFault) → SensorFails Refused contents g actor f → ⊥
   sensor_fails actor f h =
       let reported = can.files actor h.file h.bound h.sensor in
-      ok_err (can.rows actor) f (agrees rows_of (contents h.file) reported.0 (Ok (can.rows actor)) (Err f) reported.1 (of_sensor actor h.file h.bound h.sensor) h.fails)
+      ok_err (can.rows actor) f (agrees (rows_of (file_limits g.claims)) (contents h.file) reported.0 (Ok (can.rows actor)) (Err f) reported.1 (of_sensor actor h.file h.bound h.sensor) h.fails)
 
   pub sensor_late : (actor row seen limit : ℕ) → SensorLate contents g actor row seen limit → ⊥
   sensor_late actor row seen limit h =
       let reported = can.files actor h.file h.bound h.sensor in
-      let rows : can.rows actor ≡ h.rows = same_ok {E = RowFault} (can.rows actor) h.rows (agrees rows_of (contents h.file) reported.0 (Ok (can.rows actor)) (Ok h.rows) reported.1 (of_sensor actor h.file h.bound h.sensor) h.read) in
+      let rows : can.rows actor ≡ h.rows = same_ok {E = RowFault} (can.rows actor) h.rows (agrees (rows_of (file_limits g.claims)) (contents h.file) reported.0 (Ok (can.rows actor)) (Ok h.rows) reported.1 (of_sensor actor h.file h.bound h.sensor) h.read) in
       let passes : late_row h.bound g.until (can.rows actor) ≡ None = subst (λ (k : Kind). InTime g.until k (can.rows actor)) h.sensor (can.in_time actor) in
       none_some row (sym passes ∙ ap (late_row h.bound g.until) rows ∙ h.is_late.first)
 
   -- by whatever clock
   module _ (left : Leaves) (workers : ℕ) (clock : ClockChoice) (log : Bool) (r : SourceCall) (w : SinkCall) (reads : Rose r.before r.now → ⊥) (writes : Rose w.before w.now → ⊥) where
-    own_cause : (f : Fault) → GraphWith contents blocks name (λ h. CauseOf (Run workers clock log) f left contents h (name ∷ []) r) → EndsAsShown (Some f) left g
-    own_cause f (h, file, cause) = on_graph f (subst (λ z. CauseOf (Run workers clock log) f left contents z (name ∷ []) r) (this_graph h file) cause)
+    own_cause : (f : Fault) → GraphWith contents blocks graph_file (λ h. CauseOf (Run workers clock log) f left contents h (graph_file.name ∷ []) r) → EndsAsShown (Some f) left g
+    own_cause f (h, file, cause) = on_graph f (subst (λ z. CauseOf (Run workers clock log) f left contents z (graph_file.name ∷ []) r) (this_graph h file) cause)
       where
-        on_graph : (e : Fault) → CauseOf (Run workers clock log) e left contents g (name ∷ []) r → EndsAsShown (Some e) left g
+        on_graph : (e : Fault) → CauseOf (Run workers clock log) e left contents g (graph_file.name ∷ []) r → EndsAsShown (Some e) left g
         on_graph (fault.Cycle actors) k = absurd (can.no_free_cycle k.0.first k.0.edge k.0.path k.0.cycle k.0.free)
         on_graph fault.Memory k = tt
         on_graph (fault.Infeasible send offset slack) k = absurd (too_late g send slack offset can.feasible k.1.0)
@@ -138,7 +139,7 @@ module _ (contents : Contents) (blocks : List Named) (name : List ℕ) (g : Grap
         on_graph (fault.Graph e) k = absurd k.1
         on_graph fault.Write k = absurd k.1
 
-    own_outcome : (o : Option Fault) → EndsBy o left (Some (Run workers clock log, name)) contents blocks r w → EndsAsShown o left g
+    own_outcome : (o : Option Fault) → EndsBy o left (Some (Run workers clock log, graph_file)) contents blocks r w → EndsAsShown o left g
     own_outcome None (text, (h, file, (free, run)), appends) = run.finished.missed
     own_outcome (Some fault.Usage) k = absurd k
     own_outcome (Some (fault.Graph f)) k = absurd (no_fault f k.0)
@@ -198,10 +199,10 @@ module _ (contents : Contents) (blocks : List Named) (name : List ℕ) (g : Grap
 
     module _ (status : ℕ) (left : Leaves) (workers : ℕ) (log : Bool) (r : SourceCall) (w : SinkCall) (reads : Rose r.before r.now → ⊥) (writes : Rose w.before w.now → ⊥) where
       -- by the fault over the graph
-      by_cause : (f : Fault) → status ≡ status_of (Some f) left.misses → GraphWith contents blocks name (λ h. CauseOf (Run workers Paced log) f left contents h (name ∷ []) r) → StatusIsMeant status g xs
-      by_cause f is (h, file, cause) = on_graph f is (subst (λ z. CauseOf (Run workers Paced log) f left contents z (name ∷ []) r) (this_graph h file) cause)
+      by_cause : (f : Fault) → status ≡ status_of (Some f) left.misses → GraphWith contents blocks graph_file (λ h. CauseOf (Run workers Paced log) f left contents h (graph_file.name ∷ []) r) → StatusIsMeant status g xs
+      by_cause f is (h, file, cause) = on_graph f is (subst (λ z. CauseOf (Run workers Paced log) f left contents z (graph_file.name ∷ []) r) (this_graph h file) cause)
         where
-          on_graph : (e : Fault) → status ≡ status_of (Some e) left.misses → CauseOf (Run workers Paced log) e left contents g (name ∷ []) r → StatusIsMeant status g xs
+          on_graph : (e : Fault) → status ≡ status_of (Some e) left.misses → CauseOf (Run workers Paced log) e left contents g (graph_file.name ∷ []) r → StatusIsMeant status g xs
           on_graph (fault.Cycle actors) is k = absurd (can.no_free_cycle k.0.first k.0.edge k.0.path k.0.cycle k.0.free)
           on_graph fault.Memory is k = inr (inr (inr is))
           on_graph (fault.Infeasible send offset slack) is k = absurd (too_late g send slack offset can.feasible k.1.0)
@@ -222,7 +223,7 @@ module _ (contents : Contents) (blocks : List Named) (name : List ℕ) (g : Grap
           on_graph (fault.Graph e) is k = absurd k.1
           on_graph fault.Write is k = absurd k.1
 
-      by_outcome : (o : Option Fault) → status ≡ status_of o left.misses → EndsBy o left (Some (Run workers Paced log, name)) contents blocks r w → StatusIsMeant status g xs
+      by_outcome : (o : Option Fault) → status ≡ status_of o left.misses → EndsBy o left (Some (Run workers Paced log, graph_file)) contents blocks r w → StatusIsMeant status g xs
       by_outcome None is (text, (h, file, (free, run)), appends) = finished (run_clocks workers Paced left) run.plan log left.platforms left.misses text refl (run.graph ∙ this_graph h file) run.finished status is
       by_outcome (Some fault.Usage) is k = absurd k
       by_outcome (Some (fault.Graph f)) is k = absurd (no_fault f k.0)
@@ -245,9 +246,9 @@ module _ (contents : Contents) (blocks : List Named) (name : List ℕ) (g : Grap
 
 -- a call that ends by its words
 pub complete : (status : ℕ) (o : Option Fault) (left : Leaves) (order : Option Order) (contents : Contents) (blocks : List Named) (r : SourceCall) (w : SinkCall) → status ≡ status_of o left.misses → Ends o left order contents blocks r w → IsComplete status order contents blocks r w
-complete status o left order contents blocks r w is ends workers log name g xs words can reads writes =
-    by_outcome contents blocks name g can.begins xs can.means status left workers log r w reads writes o is (subst (λ z. Ends o left z contents blocks r w) words ends)
+complete status o left order contents blocks r w is ends workers log graph_file g xs words can reads writes =
+    by_outcome contents blocks graph_file g can.begins xs can.means status left workers log r w reads writes o is (subst (λ z. Ends o left z contents blocks r w) words ends)
 
 pub complete_by_any_clock : (o : Option Fault) (left : Leaves) (order : Option Order) (contents : Contents) (blocks : List Named) (r : SourceCall) (w : SinkCall) → Ends o left order contents blocks r w → IsCompleteByAnyClock o left order contents blocks r w
-complete_by_any_clock o left order contents blocks r w ends workers clock log name g words can reads writes =
-    own_outcome contents blocks name g can left workers clock log r w reads writes o (subst (λ z. Ends o left z contents blocks r w) words ends)
+complete_by_any_clock o left order contents blocks r w ends workers clock log graph_file g words can reads writes =
+    own_outcome contents blocks graph_file g can left workers clock log r w reads writes o (subst (λ z. Ends o left z contents blocks r w) words ends)

@@ -5,7 +5,6 @@ use Rattle.pt_types.specs.declared.rows.Row.{Row}
 use Rattle.pt_blocks.specs.declared.blocks.Named.{Named}
 use Rattle.pt_graph_text.specs.declared.fault.GraphFault.{GraphFault}
 use Rattle.pt_graph_text.specs.declared.fault.GraphFault.TheVariants as graph
-use Rattle.pt_graph.specs.GraphOf.{graph_of}
 use Rattle.pt_semantics.specs.Ranks.{AreLevels}
 use Rattle.pt_semantics.proofs.Acyclic.{levels_forbid_cycles}
 use Rattle.pt_causality.specs.declared.cycle.CycleFault.{CycleFault}
@@ -34,6 +33,8 @@ use Rattle.pt_run.specs.Due.{AfterCycles, AfterFile, AfterOffsets, AfterRows, An
 use Rattle.pt_run.specs.Faults.{fault_of_cycle, fault_of_graph, fault_of_offset, fault_of_rows, fault_of_slacks}
 use Rattle.pt_run.specs.Texts.{PutsOrReports, PutBy, left_by, left_with}
 use Rattle.pt_run.specs.Written.{FitOnAll, HasNothing, IsChecked, IsTables, Leaves, leaves_nothing}
+use Rattle.pt_run.specs.GraphFiles.{graph_by}
+use Rattle.pt_words.specs.Grammar.{GraphFile}
 
 -- where nothing is left, there are no misses and no platforms
 pub has_nothing : (o : Ending) (before now : List ClockView) → left_by o ≡ leaves_nothing → HasNothing (left_with o before now)
@@ -63,13 +64,13 @@ reported_due a f reported Due nothing still is report refuses = ⊎_elim (λ (sa
 
 -- The graph file.
 
-module _ (contents : Contents) (blocks : List Named) (name : List ℕ) (r : SourceCall) where
+module _ (contents : Contents) (blocks : List Named) (graph_file : GraphFile) (r : SourceCall) where
   -- it could not be read
-  pub graph_unread : ReadFails [] name r → RefusesAsDue (fault.Read None) r (λ a. AfterFile contents blocks name a (λ g. ⊥))
-  graph_unread failed a is out = inr (inl (out, subst (ReadFails [] name) (sym is) failed))
+  pub graph_unread : ReadFails [] graph_file.name r → RefusesAsDue (fault.Read None) r (λ a. AfterFile contents blocks graph_file a (λ g. ⊥))
+  graph_unread failed a is out = inr (inl (out, subst (ReadFails [] graph_file.name) (sym is) failed))
 
   -- its text has a fault
-  pub graph_fails : (f : GraphFault) → (f ≢ graph.Memory → IfSome (contents name) (λ bytes. graph_of blocks bytes ≡ Err f)) → RefusesAsDue (fault_of_graph f) r (λ a. AfterFile contents blocks name a (λ g. ⊥))
+  pub graph_fails : (f : GraphFault) → (f ≢ graph.Memory → IfSome (contents graph_file.name) (λ bytes. graph_by blocks graph_file bytes ≡ Err f)) → RefusesAsDue (fault_of_graph f) r (λ a. AfterFile contents blocks graph_file a (λ g. ⊥))
   graph_fails graph.Memory h a is out = inl out
   graph_fails graph.TooLong h a is out = inr (inr (inl (graph.TooLong, out, h (λ e. absurd cc))))
   graph_fails graph.NotJson h a is out = inr (inr (inl (graph.NotJson, out, h (λ e. absurd cc))))
@@ -87,7 +88,7 @@ module _ (contents : Contents) (blocks : List Named) (name : List ℕ) (r : Sour
   graph_fails (graph.Block p) h a is out = inr (inr (inl (graph.Block p, out, h (λ e. absurd cc))))
 
   -- a call that it refuses goes on with no graph
-  pub past_file : (a : Answer) (Then : Graph → Type 0) → UnlessMemory a (λ a. AfterFile contents blocks name a (λ g. ⊥)) → UnlessMemory a (λ a. AfterFile contents blocks name a Then)
+  pub past_file : (a : Answer) (Then : Graph → Type 0) → UnlessMemory a (λ a. AfterFile contents blocks graph_file a (λ g. ⊥)) → UnlessMemory a (λ a. AfterFile contents blocks graph_file a Then)
   past_file a Then (inl out) = inl out
   past_file a Then (inr (inl k)) = inr (inl k)
   past_file a Then (inr (inr (inl k))) = inr (inr (inl k))

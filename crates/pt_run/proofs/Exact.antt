@@ -4,8 +4,6 @@ use Rattle.pt_types.specs.declared.graph.Graph.{Graph}
 use Rattle.pt_types.specs.declared.rows.Row.{Row}
 use Rattle.pt_blocks.specs.declared.blocks.Named.{Named}
 use Rattle.pt_graph_text.specs.declared.fault.GraphFault.{GraphFault}
-use Rattle.pt_graph.specs.GraphOf.{graph_of}
-use Rattle.pt_graph.proofs.Lawful.{lawful_of}
 use Rattle.pt_types.specs.Lawful.{IsLawful}
 use Rattle.pt_slacks.specs.Rings.{IsRing}
 use Rattle.pt_slacks.specs.Slacks.{Admits}
@@ -36,7 +34,7 @@ use Rattle.pt_words.specs.declared.orders.Command.TheVariants.{Run, Check, Meani
 use Rattle.pt_run.specs.Causes.{IsTooLongForAll}
 use Rattle.pt_run.proofs.CauseFields.{AsksFeasible, OfRows}
 use Rattle.pt_run.proofs.ByCause.{CanAudit, ComesByCause, Defines, WantsGraph, WantsMemory, WantsRows, refused_as}
-use Rattle.pt_words.specs.Grammar.{Order, audit, make, migrate, over, replay}
+use Rattle.pt_words.specs.Grammar.{GraphFile, Order, audit, make, migrate, over, replay}
 use Rattle.pt_run.specs.Reporting.{paced_run}
 use Rattle.pt_run.specs.Written.{GraphWith, Leaves, run_clocks}
 use Rattle.pt_run.proofs.ByFault.{CauseOf, CauseOfCheck, CauseOfMeaning, CauseOfNoSlacks, CauseOfRun, CauseOfText, Ends, EndsBy, EndsMigrated, IsMeant, Writes}
@@ -45,6 +43,7 @@ use Rattle.pt_run.proofs.AirFound.{finds_air}
 use Rattle.pt_run.proofs.Complete.{agrees, ok_err, same_ok, too_late}
 use Rattle.pt_run.proofs.PastRows.{PastRows, as_run, audit_past, past_rows, replay_past}
 use Rattle.pt_run.proofs.OneCause.{AllHave, fails_all, fails_late, fails_rows, late_all, meant_long, one_fails, one_infeasible, one_late, same_err}
+use Rattle.pt_run.specs.GraphFiles.{graph_by}
 
 -- a graph has no cycle that takes no time, and each sender can send in time, if the command refuses others
 abbrev IsFit : Command → Graph → Type 0
@@ -160,26 +159,26 @@ module _ (left : Leaves) (contents : Contents) (g : Graph) (others : List (List 
   wrote Slacks l text outcome put (free, (none, slacked)) = whole (free, λ e. absurd e) (λ e. absurd e) (λ e. absurd (slacks_meaning e)) (λ e. ((slacked.slack, slacked.least.admits), put))
 
 -- over a graph file with known content
-module _ (contents : Contents) (blocks : List Named) (name bytes : List ℕ) (reported : contents name ≡ Some bytes) (left : Leaves) (r : SourceCall) (w : SinkCall) where
-  defines : (d : Result Graph GraphFault) → graph_of blocks bytes ≡ d → IfSome (contents name) (λ bytes. graph_of blocks bytes ≡ d)
-  defines d is = subst (λ z. IfSome z (λ bytes. graph_of blocks bytes ≡ d)) (sym reported) is
+module _ (contents : Contents) (blocks : List Named) (graph_file : GraphFile) (bytes : List ℕ) (reported : contents graph_file.name ≡ Some bytes) (left : Leaves) (r : SourceCall) (w : SinkCall) where
+  defines : (d : Result Graph GraphFault) → graph_by blocks graph_file bytes ≡ d → IfSome (contents graph_file.name) (λ bytes. graph_by blocks graph_file bytes ≡ d)
+  defines d is = subst (λ z. IfSome z (λ bytes. graph_by blocks graph_file bytes ≡ d)) (sym reported) is
 
-  one_defined : (d e : Result Graph GraphFault) → graph_of blocks bytes ≡ d → IfSome (contents name) (λ bytes. graph_of blocks bytes ≡ e) → d ≡ e
-  one_defined d e is other = agrees (graph_of blocks) (contents name) bytes d e reported (defines d is) other
+  one_defined : (d e : Result Graph GraphFault) → graph_by blocks graph_file bytes ≡ d → IfSome (contents graph_file.name) (λ bytes. graph_by blocks graph_file bytes ≡ e) → d ≡ e
+  one_defined d e is other = agrees (graph_by blocks graph_file) (contents graph_file.name) bytes d e reported (defines d is) other
 
-  answer : (command : Command) (g : Graph) (outcome : Option Fault) → graph_of blocks bytes ≡ Ok g → EndsBy outcome left (Some (command, name)) contents blocks r w → Answer command contents g outcome
+  answer : (command : Command) (g : Graph) (outcome : Option Fault) → graph_by blocks graph_file bytes ≡ Ok g → EndsBy outcome left (Some (command, graph_file)) contents blocks r w → Answer command contents g outcome
   answer command g outcome is ends = by_outcome outcome ends
     where
-      this_graph : (h : Graph) → IfSome (contents name) (λ bytes. graph_of blocks bytes ≡ Ok h) → h ≡ g
+      this_graph : (h : Graph) → IfSome (contents graph_file.name) (λ bytes. graph_by blocks graph_file bytes ≡ Ok h) → h ≡ g
       this_graph h other = sym (same_ok {E = GraphFault} g h (one_defined (Ok g) (Ok h) is other))
 
-      wrote_here : (o : Option Fault) (l : Leaves) (text : List ℕ) (h : Graph) → IsPut o → IfSome (contents name) (λ bytes. graph_of blocks bytes ≡ Ok h) → Writes command contents h l text → Answer command contents g o
-      wrote_here o l text h put file writes = wrote left contents g (name ∷ []) r command l text o put (subst (λ z. Writes command contents z l text) (this_graph h file) writes)
+      wrote_here : (o : Option Fault) (l : Leaves) (text : List ℕ) (h : Graph) → IsPut o → IfSome (contents graph_file.name) (λ bytes. graph_by blocks graph_file bytes ≡ Ok h) → Writes command contents h l text → Answer command contents g o
+      wrote_here o l text h put file writes = wrote left contents g (graph_file.name ∷ []) r command l text o put (subst (λ z. Writes command contents z l text) (this_graph h file) writes)
 
-      fails_here : (f : Fault) → GraphWith contents blocks name (λ h. CauseOf command f left contents h (name ∷ []) r) → Answer command contents g (Some f)
-      fails_here f (h, file, cause) = by_cause left contents g (name ∷ []) r command f (subst (λ z. CauseOf command f left contents z (name ∷ []) r) (this_graph h file) cause)
+      fails_here : (f : Fault) → GraphWith contents blocks graph_file (λ h. CauseOf command f left contents h (graph_file.name ∷ []) r) → Answer command contents g (Some f)
+      fails_here f (h, file, cause) = by_cause left contents g (graph_file.name ∷ []) r command f (subst (λ z. CauseOf command f left contents z (graph_file.name ∷ []) r) (this_graph h file) cause)
 
-      by_outcome : (o : Option Fault) → EndsBy o left (Some (command, name)) contents blocks r w → Answer command contents g o
+      by_outcome : (o : Option Fault) → EndsBy o left (Some (command, graph_file)) contents blocks r w → Answer command contents g o
       by_outcome None (text, (h, file, writes), appends) = wrote_here None left text h (inl refl) file writes
       by_outcome (Some fault.Write) (rose, (none, misses, text, (h, file, writes), part)) = wrote_here (Some fault.Write) (record left { misses = misses }) text h (inr refl) file writes
       by_outcome (Some fault.Usage) k = absurd k
@@ -189,13 +188,13 @@ module _ (contents : Contents) (blocks : List Named) (name bytes : List ℕ) (re
       by_outcome (Some f) k = fails_here f k.0
 
   -- a file with a fault
-  refused : (command : Command) (f : GraphFault) (outcome : Option Fault) → graph_of blocks bytes ≡ Err f → EndsBy outcome left (Some (command, name)) contents blocks r w → (outcome ≡ Some (fault.Graph f)) ⊎ WantsGraph outcome
+  refused : (command : Command) (f : GraphFault) (outcome : Option Fault) → graph_by blocks graph_file bytes ≡ Err f → EndsBy outcome left (Some (command, graph_file)) contents blocks r w → (outcome ≡ Some (fault.Graph f)) ⊎ WantsGraph outcome
   refused command f outcome is ends = by_outcome outcome ends
     where
-      no_graph : (h : Graph) → IfSome (contents name) (λ bytes. graph_of blocks bytes ≡ Ok h) → ⊥
+      no_graph : (h : Graph) → IfSome (contents graph_file.name) (λ bytes. graph_by blocks graph_file bytes ≡ Ok h) → ⊥
       no_graph h other = ok_err h f (sym (one_defined (Err f) (Ok h) is other))
 
-      by_outcome : (o : Option Fault) → EndsBy o left (Some (command, name)) contents blocks r w → (o ≡ Some (fault.Graph f)) ⊎ WantsGraph o
+      by_outcome : (o : Option Fault) → EndsBy o left (Some (command, graph_file)) contents blocks r w → (o ≡ Some (fault.Graph f)) ⊎ WantsGraph o
       by_outcome None (text, (h, file, writes), appends) = absurd (no_graph h file)
       by_outcome (Some fault.Write) (rose, (none, misses, text, (h, file, writes), part)) = absurd (no_graph h file)
       by_outcome (Some fault.Usage) k = absurd k
@@ -205,7 +204,7 @@ module _ (contents : Contents) (blocks : List Named) (name bytes : List ℕ) (re
       by_outcome (Some e) k = absurd (no_graph k.0.0 k.0.1)
 
   -- an audit or a replay of a graph
-  past_answer : (g : Graph) (outcome : Option Fault) → graph_of blocks bytes ≡ Ok g → PastRows left name contents blocks r w outcome → Answer paced_run contents g outcome
+  past_answer : (g : Graph) (outcome : Option Fault) → graph_by blocks graph_file bytes ≡ Ok g → PastRows left graph_file contents blocks r w outcome → Answer paced_run contents g outcome
   past_answer g outcome is (past_rows h) =
       let same : h.plan.graph ≡ g = sym (same_ok {E = GraphFault} g h.plan.graph (one_defined (Ok g) (Ok h.plan.graph) is h.file)) in
       whole (subst NoFreeCycle same h.over.admitted.no_free_cycle, λ e. subst IsFeasible same h.over.admitted.feasible) (λ e. subst (λ z. AllHave Refused contents z) same (h.over.rows, h.over.sensors, h.over.in_time))
@@ -213,18 +212,18 @@ module _ (contents : Contents) (blocks : List Named) (name bytes : List ℕ) (re
   past_answer g outcome is (as_run k) = answer paced_run g outcome is k
 
   -- and of a file with a fault
-  past_refused : (f : GraphFault) (outcome : Option Fault) → graph_of blocks bytes ≡ Err f → PastRows left name contents blocks r w outcome → (outcome ≡ Some (fault.Graph f)) ⊎ WantsGraph outcome
+  past_refused : (f : GraphFault) (outcome : Option Fault) → graph_by blocks graph_file bytes ≡ Err f → PastRows left graph_file contents blocks r w outcome → (outcome ≡ Some (fault.Graph f)) ⊎ WantsGraph outcome
   past_refused f outcome is (past_rows h) = absurd (ok_err h.plan.graph f (sym (one_defined (Err f) (Ok h.plan.graph) is h.file)))
   past_refused f outcome is (as_run k) = refused paced_run f outcome is k
 
   -- `migrate` of a file with a fault
-  unmigrated : (f : GraphFault) (outcome : Option Fault) → graph_of blocks bytes ≡ Err f → EndsMigrated outcome left name contents blocks r w → (outcome ≡ Some (fault.Graph f)) ⊎ WantsGraph outcome
+  unmigrated : (f : GraphFault) (outcome : Option Fault) → graph_by blocks graph_file bytes ≡ Err f → EndsMigrated outcome left graph_file contents blocks r w → (outcome ≡ Some (fault.Graph f)) ⊎ WantsGraph outcome
   unmigrated f outcome is ends = by_outcome outcome ends
     where
-      no_graph : (h : Graph) → IfSome (contents name) (λ bytes. graph_of blocks bytes ≡ Ok h) → ⊥
+      no_graph : (h : Graph) → IfSome (contents graph_file.name) (λ bytes. graph_by blocks graph_file bytes ≡ Ok h) → ⊥
       no_graph h other = ok_err h f (sym (one_defined (Err f) (Ok h) is other))
 
-      by_outcome : (o : Option Fault) → EndsMigrated o left name contents blocks r w → (o ≡ Some (fault.Graph f)) ⊎ WantsGraph o
+      by_outcome : (o : Option Fault) → EndsMigrated o left graph_file contents blocks r w → (o ≡ Some (fault.Graph f)) ⊎ WantsGraph o
       by_outcome None k = absurd (no_graph k.1.0 k.1.1)
       by_outcome (Some fault.Write) k = absurd (no_graph k.2.0 k.2.1)
       by_outcome (Some (fault.Graph e)) k = inl (ap (λ z. Some (fault.Graph z)) (sym (same_err {X = Graph} f e (one_defined (Err f) (Err e) is k.1))))
@@ -233,10 +232,10 @@ module _ (contents : Contents) (blocks : List Named) (name bytes : List ℕ) (re
       by_outcome (Some e) k = absurd k.1
 
   -- and of one that defines a graph
-  migrated : (g : Graph) (outcome : Option Fault) → graph_of blocks bytes ≡ Ok g → EndsMigrated outcome left name contents blocks r w → ((outcome ≡ None) ⊎ (outcome ≡ Some fault.Write)) ⊎ WantsGraph outcome
+  migrated : (g : Graph) (outcome : Option Fault) → graph_by blocks graph_file bytes ≡ Ok g → EndsMigrated outcome left graph_file contents blocks r w → ((outcome ≡ None) ⊎ (outcome ≡ Some fault.Write)) ⊎ WantsGraph outcome
   migrated g outcome is ends = by_outcome outcome ends
     where
-      by_outcome : (o : Option Fault) → EndsMigrated o left name contents blocks r w → ((o ≡ None) ⊎ (o ≡ Some fault.Write)) ⊎ WantsGraph o
+      by_outcome : (o : Option Fault) → EndsMigrated o left graph_file contents blocks r w → ((o ≡ None) ⊎ (o ≡ Some fault.Write)) ⊎ WantsGraph o
       by_outcome None k = inl (inl refl)
       by_outcome (Some fault.Write) k = inl (inr refl)
       by_outcome (Some (fault.Graph f)) k = absurd (ok_err g f (one_defined (Ok g) (Err f) is k.1))
@@ -244,24 +243,24 @@ module _ (contents : Contents) (blocks : List Named) (name bytes : List ℕ) (re
       by_outcome (Some fault.Memory) k = inr (inl refl)
       by_outcome (Some e) k = absurd k.1
 
-same_paced : (n : List ℕ) (command : Command) (name : List ℕ) → Some (over paced_run n) ≡ Some (over command name) → (command ≡ paced_run) × (n ≡ name)
-same_paced n command name e = (cc, cc)
+same_paced : (n : GraphFile) (command : Command) (graph_file : GraphFile) → Some (over paced_run n) ≡ Some (over command graph_file) → (command ≡ paced_run) × (n ≡ graph_file)
+same_paced n command graph_file e = (cc, cc)
 
 -- a call that is refused as this command on this file ends as that command does, or as an audit or a replay
-refused_by : (o : Option Fault) (left : Leaves) (order : Option Order) (contents : Contents) (blocks : List Named) (r : SourceCall) (w : SinkCall) (command : Command) (name : List ℕ) → refused_as order ≡ Some (over command name) → Ends o left order contents blocks r w →
-    EndsBy o left (Some (command, name)) contents blocks r w ⊎ ((command ≡ paced_run) × PastRows left name contents blocks r w o)
-refused_by o left None contents blocks r w command name e ends = absurd (none_some (over command name) e)
-refused_by o left (Some (over c n)) contents blocks r w command name e ends = inl (subst (λ z. Ends o left z contents blocks r w) e ends)
-refused_by o left (Some (make n k)) contents blocks r w command name e ends = absurd (other e)
+refused_by : (o : Option Fault) (left : Leaves) (order : Option Order) (contents : Contents) (blocks : List Named) (r : SourceCall) (w : SinkCall) (command : Command) (graph_file : GraphFile) → refused_as order ≡ Some (over command graph_file) → Ends o left order contents blocks r w →
+    EndsBy o left (Some (command, graph_file)) contents blocks r w ⊎ ((command ≡ paced_run) × PastRows left graph_file contents blocks r w o)
+refused_by o left None contents blocks r w command graph_file e ends = absurd (none_some (over command graph_file) e)
+refused_by o left (Some (over c n)) contents blocks r w command graph_file e ends = inl (subst (λ z. Ends o left z contents blocks r w) e ends)
+refused_by o left (Some (make n k)) contents blocks r w command graph_file e ends = absurd (other e)
   where
-    other : Some (make n k) ≡ Some (over command name) → ⊥
+    other : Some (make n k) ≡ Some (over command graph_file) → ⊥
     other e = cc
-refused_by o left (Some (migrate n)) contents blocks r w command name e ends = absurd (other e)
+refused_by o left (Some (migrate n)) contents blocks r w command graph_file e ends = absurd (other e)
   where
-    other : Some (migrate n) ≡ Some (over command name) → ⊥
+    other : Some (migrate n) ≡ Some (over command graph_file) → ⊥
     other e = cc
-refused_by o left (Some (audit n log)) contents blocks r w command name e ends = let (is, names) = same_paced n command name e in inr (is, subst (λ z. PastRows left z contents blocks r w o) names (audit_past left n contents blocks r w log o ends))
-refused_by o left (Some (replay n air workers log)) contents blocks r w command name e ends = let (is, names) = same_paced n command name e in inr (is, subst (λ z. PastRows left z contents blocks r w o) names (replay_past left n contents blocks r w air log o ends))
+refused_by o left (Some (audit n log)) contents blocks r w command graph_file e ends = let (is, names) = same_paced n command graph_file e in inr (is, subst (λ z. PastRows left z contents blocks r w o) names (audit_past left n contents blocks r w log o ends))
+refused_by o left (Some (replay n air workers log)) contents blocks r w command graph_file e ends = let (is, names) = same_paced n command graph_file e in inr (is, subst (λ z. PastRows left z contents blocks r w o) names (replay_past left n contents blocks r w air log o ends))
 
 -- the words are no command
 usage : (left : Leaves) (contents : Contents) (blocks : List Named) (r : SourceCall) (w : SinkCall) (outcome : Option Fault) → Ends outcome left None contents blocks r w → (outcome ≡ Some fault.Usage) ⊎ WantsMemory outcome
@@ -395,12 +394,12 @@ exact o left order contents blocks r w ends = record {
   late_row = λ workers clock log g actor row seen limit reads late. first_late contents g o reads.no_free_cycle reads.files workers clock log actor row seen limit (reads.feasible tt) late (over_graph (Run workers clock log) g reads.graph);
   long_meaning = λ g rows reads are too_long. long_meaning contents g o reads.no_free_cycle reads.files rows are too_long (over_graph Meaning g reads.graph);
   ring = λ g d free none. ring contents g o free none (over_graph Slacks g (by_slacks g d));
-  slacked = λ g slack are d free admits. least_slacks contents g o free slack (lawful_of blocks d.bytes g are d.defines) admits (over_graph Slacks g (by_slacks g d));
-  unmigrated = λ f d. unmigrated contents blocks d.name d.bytes d.reported left r w f o d.defines (by_migrate (Err f) d);
-  migrated = λ g d. migrated contents blocks d.name d.bytes d.reported left r w g o d.defines (by_migrate (Ok g) d);
+  slacked = λ g slack lawful d free admits. least_slacks contents g o free slack lawful admits (over_graph Slacks g (by_slacks g d));
+  unmigrated = λ f d. unmigrated contents blocks d.graph_file d.bytes d.reported left r w f o d.defines (by_migrate (Err f) d);
+  migrated = λ g d. migrated contents blocks d.graph_file d.bytes d.reported left r w g o d.defines (by_migrate (Ok g) d);
   lawful = λ plan rows bytes can lawful. finds_lawful plan rows bytes o lawful (by_audit plan rows bytes can);
   unlawful = λ plan rows bytes can never. finds_unlawful plan rows bytes o never (by_audit plan rows bytes can);
-  air = λ g bytes f can is. finds_air order left contents blocks r w g bytes f can is o (by_words (replay can.name can.air can.workers can.log) can.words);
+  air = λ g bytes f can is. finds_air order left contents blocks r w g bytes f can is o (by_words (replay can.graph_file can.air can.workers can.log) can.words);
   verdict = λ plan rows bytes v can refuses. finds_verdict plan rows bytes o v refuses (by_audit plan rows bytes can);
 }
   where
@@ -408,24 +407,24 @@ exact o left order contents blocks r w ends = record {
     by_words z words = subst (λ z. Ends o left z contents blocks r w) words ends
 
     by_audit : (plan : Parts) (rows : ℕ → List Row) (bytes : List ℕ) (can : CanAudit order contents blocks plan rows bytes) → Audited plan rows bytes o
-    by_audit plan rows bytes can = audited order left contents blocks r w plan rows bytes can o (by_words (audit can.name can.log) can.words)
+    by_audit plan rows bytes can = audited order left contents blocks r w plan rows bytes can o (by_words (audit can.graph_file can.log) can.words)
 
     by_slacks : (g : Graph) → Defines order contents blocks (over Slacks) (Ok g) → Defines (refused_as order) contents blocks (over Slacks) (Ok g)
-    by_slacks g d = record { name = d.name; words = ap refused_as d.words; bytes = d.bytes; reported = d.reported; defines = d.defines }
+    by_slacks g d = record { graph_file = d.graph_file; words = ap refused_as d.words; bytes = d.bytes; reported = d.reported; defines = d.defines }
 
-    by_migrate : (defined : Result Graph GraphFault) (d : Defines order contents blocks migrate defined) → EndsMigrated o left d.name contents blocks r w
+    by_migrate : (defined : Result Graph GraphFault) (d : Defines order contents blocks migrate defined) → EndsMigrated o left d.graph_file contents blocks r w
     by_migrate defined d = subst (λ z. Ends o left z contents blocks r w) d.words ends
 
     no_graph : (command : Command) (f : GraphFault) → Defines (refused_as order) contents blocks (over command) (Err f) → (o ≡ Some (fault.Graph f)) ⊎ WantsGraph o
     no_graph command f d =
         ⊎_elim
-        (λ (k : EndsBy o left (Some (command, d.name)) contents blocks r w). refused contents blocks d.name d.bytes d.reported left r w command f o d.defines k)
-        (λ (k : (command ≡ paced_run) × PastRows left d.name contents blocks r w o). past_refused contents blocks d.name d.bytes d.reported left r w f o d.defines k.1)
-        (refused_by o left order contents blocks r w command d.name d.words ends)
+        (λ (k : EndsBy o left (Some (command, d.graph_file)) contents blocks r w). refused contents blocks d.graph_file d.bytes d.reported left r w command f o d.defines k)
+        (λ (k : (command ≡ paced_run) × PastRows left d.graph_file contents blocks r w o). past_refused contents blocks d.graph_file d.bytes d.reported left r w f o d.defines k.1)
+        (refused_by o left order contents blocks r w command d.graph_file d.words ends)
 
     over_graph : (command : Command) (g : Graph) → Defines (refused_as order) contents blocks (over command) (Ok g) → Answer command contents g o
     over_graph command g d =
         ⊎_elim
-        (λ (k : EndsBy o left (Some (command, d.name)) contents blocks r w). answer contents blocks d.name d.bytes d.reported left r w command g o d.defines k)
-        (λ (k : (command ≡ paced_run) × PastRows left d.name contents blocks r w o). subst (λ c. Answer c contents g o) (sym k.0) (past_answer contents blocks d.name d.bytes d.reported left r w g o d.defines k.1))
-        (refused_by o left order contents blocks r w command d.name d.words ends)
+        (λ (k : EndsBy o left (Some (command, d.graph_file)) contents blocks r w). answer contents blocks d.graph_file d.bytes d.reported left r w command g o d.defines k)
+        (λ (k : (command ≡ paced_run) × PastRows left d.graph_file contents blocks r w o). subst (λ c. Answer c contents g o) (sym k.0) (past_answer contents blocks d.graph_file d.bytes d.reported left r w g o d.defines k.1))
+        (refused_by o left order contents blocks r w command d.graph_file d.words ends)

@@ -1,6 +1,6 @@
 -- Platforms that have finished a run.
-use Rattle.std.proofs.Common.{◌≡◌, ◌++◌, ℕ, Bool, true, false, List, [], Option, None, Some, Result, Ok, Err, IfOk, IfErr, refl, sym, ap, subst, ◌∙◌, append-nil, inl, inr}
-use Rattle.std.specs.Prelude.{◌↔◌, flat_map, is_some}
+use Rattle.std.proofs.Common.{◌≡◌, ◌++◌, ℕ, Bool, true, false, List, Option, None, Some, Result, Ok, Err, IfOk, IfErr, refl, sym, ap, subst, ◌∙◌, append-nil, inl, inr}
+use Rattle.std.specs.Prelude.{◌↔◌, flat_map}
 use Rattle.pt_types.specs.declared.rows.Row.{Row}
 use Rattle.pt_types.specs.declared.graph.Graph.{Graph}
 use Rattle.pt_types.specs.declared.firing.ActorFiring.{ActorFiring}
@@ -13,7 +13,6 @@ use Rattle.pt_semantics.specs.Tables.{tables_text}
 use Rattle.pt_causality.specs.Ranked.{level_of, rank_of}
 use Rattle.pt_turn.specs.Platforms.{PlatformView}
 use Rattle.pt_turn.specs.All.{AreAll, AreReady}
-use Rattle.pt_tables.specs.declared.log_page.LogPage.{LogPage}
 use Rattle.pt_tables.specs.Log.{log_head, log_text}
 use Rattle.pt_tables.specs.Platforms.{AreInOrder, histories, platform_lines}
 use Rattle.pt_tables.proofs.InOrder.{in_order as lines_in_order}
@@ -27,7 +26,7 @@ use Rattle.pt_turn.specs.declared.fault.TurnFault.{TurnFault}
 use Rattle.pt_run.specs.declared.outputs.Outputs.{Outputs}
 use Rattle.pt_run.specs.declared.outcome.Stopped.{Stopped}
 use Rattle.pt_run.specs.Readings.{RunClocks}
-use Rattle.pt_run.specs.Runs.{AreHeldIf, CauseOfStop, HasOpened, IsOutcomeOver, IsKept, IsOutput, HasOutputs, IsStop, IsText, AreOutputs, IsOutcomeBy, log_if, paged_log}
+use Rattle.pt_run.specs.Runs.{AreHeldIf, CauseOfStop, HasOpened, IsOutcomeOver, IsKept, IsOutput, HasOutputs, IsStop, IsText, AreOutputs, IsOutcomeBy, log_if, asked_log}
 use Rattle.pt_run.proofs.Missed.{missed_in}
 
 pub in_order : (plan : Parts) (rows : ℕ → List Row) (platforms : List PlatformView) → AreAll plan rows platforms → AreInOrder plan.graph platforms
@@ -44,14 +43,11 @@ pub with_log : (plan : Parts) (platforms : List PlatformView) (front text : List
 with_log plan platforms front text tables logged rows finished =
     let are = tables rows finished in (are.firings, are.meaning, logged plan.graph (in_order plan rows platforms finished.all) ∙ ap (λ z. z ++ log_text plan.graph (histories platforms)) are.written)
 
--- so it is with a page for the log, or without one
-pub text_of_outputs : (plan : Parts) (log : Bool) (platforms : List PlatformView) (page : Option LogPage) (front : List ℕ) → ((rows : ℕ → List Row) → HaveFinished plan rows platforms → AreTables plan rows front) → is_some page ≡ log
-    → IsText plan log platforms (front ++ paged_log page platforms)
-text_of_outputs plan log platforms None front tables is =
-    subst (λ asked. IsText plan asked platforms (front ++ [])) is (subst (IsText plan false platforms) (sym (append-nil front)) (without_log plan platforms front tables))
-text_of_outputs plan log platforms (Some page) front tables is =
-    subst (λ asked. IsText plan asked platforms (front ++ (log_head ++ flat_map platform_lines platforms))) is
-    (with_log plan platforms front (front ++ (log_head ++ flat_map platform_lines platforms)) tables (λ g are. ap (λ lines. front ++ (log_head ++ lines)) (lines_in_order g platforms are)))
+-- so it is whether or not it is asked for
+pub text_of_outputs : (plan : Parts) (log : Bool) (platforms : List PlatformView) (front : List ℕ) → ((rows : ℕ → List Row) → HaveFinished plan rows platforms → AreTables plan rows front) → IsText plan log platforms (front ++ asked_log log platforms)
+text_of_outputs plan false platforms front tables = subst (IsText plan false platforms) (sym (append-nil front)) (without_log plan platforms front tables)
+text_of_outputs plan true platforms front tables =
+    with_log plan platforms front (front ++ (log_head ++ flat_map platform_lines platforms)) tables (λ g are. ap (λ lines. front ++ (log_head ++ lines)) (lines_in_order g platforms are))
 
 pub have_finished : (plan : Parts) (rows : ℕ → List Row) (platforms : List PlatformView) → FitRows plan.graph rows → IsPacedOutcome plan (level_of plan.ranks) rows platforms None → HaveFinished plan rows platforms
 have_finished plan rows platforms fit run = record { all = run.all; fit = fit; finished = λ i v at. (run.ends i v at).1; linked = run.linked refl }

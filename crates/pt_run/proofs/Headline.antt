@@ -8,7 +8,6 @@ use Rattle.pt_types.specs.declared.graph.Graph.{Graph}
 use Rattle.pt_types.specs.declared.rows.Row.{Row}
 use Rattle.pt_types.specs.Lookups.{platform_of}
 use Rattle.pt_blocks.specs.declared.blocks.Named.{Named}
-use Rattle.pt_graph.specs.GraphOf.{graph_of}
 use Rattle.pt_semantics.specs.History.{IsLegal}
 use Rattle.pt_semantics.specs.Linked.{AreLinked, AreMatched, IsFinished, all_sent, all_taken}
 use Rattle.pt_semantics.specs.Lists.{Each}
@@ -41,9 +40,10 @@ use Rattle.pt_run.specs.OverFiles.{HasHeadline, HasReadings, at_end, inputs_of}
 use Rattle.pt_run.specs.Headline.{AtEnd, ByReadings, EndAs, Headline, LeavesTurns, PutsTables, turns_at}
 use Rattle.pt_rounds.specs.Outcome.{IsOutcome as IsPacedOutcome}
 use Rattle.pt_run.specs.Runs.{IsKept}
-use Rattle.pt_words.specs.Grammar.{Order, over}
+use Rattle.pt_words.specs.Grammar.{GraphFile, Order, over}
 use Rattle.pt_run.specs.Written.{run_clocks, has_run, stop_of}
 use Rattle.pt_run.proofs.Stages.{by_admission, by_file, with_fault}
+use Rattle.pt_run.specs.GraphFiles.{graph_by}
 
 -- Platforms at the end, from all that contracts see of them.
 
@@ -126,12 +126,12 @@ same_late contents g actor row seen limit sensor number read by e is =
 both : (b : Bool) → b ≡ true → b ≡ false → ⊥
 both b e h = cc
 
-module _ (contents : Contents) (blocks : List Named) (name : List ℕ) (workers : ℕ) (clock : ClockChoice) (log : Bool) (a : Answer) where
+module _ (contents : Contents) (blocks : List Named) (graph_file : GraphFile) (workers : ℕ) (clock : ClockChoice) (log : Bool) (a : Answer) where
   abbrev By : ByReadings
   By = HasReadings (run_clocks workers clock a.left) a.left.platforms
 
   abbrev Holds : Option Fault → Type 0
-  Holds o = Headline (inputs_of contents blocks) By name clock log o (ended a.left.platforms) a.left.misses a.wrote
+  Holds o = Headline (inputs_of contents blocks) By graph_file clock log o (ended a.left.platforms) a.left.misses a.wrote
 
   -- a call without a run
   refused : (f : Fault) → RefusedWith f a → has_run (Some f) ≡ false → ((platform actor : ℕ) (tag : Tag) (reading limit : ℕ) → f ≢ fault.LateMessage platform actor tag reading limit) → ((actor row seen limit : ℕ) → f ≢ fault.LateRow actor row seen limit) → Holds (Some f)
@@ -142,7 +142,7 @@ module _ (contents : Contents) (blocks : List Named) (name : List ℕ) (workers 
     late_row = λ actor row seen limit e. absurd (no_row actor row seen limit cc);
   }
 
-  late : (g : Graph) → IfSome (contents name) (λ bytes. graph_of blocks bytes ≡ Ok g) → (actor row seen limit : ℕ) → RefusedWith (fault.LateRow actor row seen limit) a → SensorLate contents g actor row seen limit → Holds (Some (fault.LateRow actor row seen limit))
+  late : (g : Graph) → IfSome (contents graph_file.name) (λ bytes. graph_by blocks graph_file bytes ≡ Ok g) → (actor row seen limit : ℕ) → RefusedWith (fault.LateRow actor row seen limit) a → SensorLate contents g actor row seen limit → Holds (Some (fault.LateRow actor row seen limit))
   late g file actor row seen limit h is = record {
     run = λ e. absurd cc;
     nothing_else = λ e. (ap ended h.1.1, h.1.0, h.2);
@@ -181,14 +181,14 @@ module _ (contents : Contents) (blocks : List Named) (name : List ℕ) (workers 
         late_not_long : turn.Late actor tag reading limit ≡ turn.Long → ⊥
         late_not_long same = cc
 
-    ran : (g : Graph) → IfSome (contents name) (λ bytes. graph_of blocks bytes ≡ Ok g) → plan.graph ≡ g → AreRows contents plan.graph all → AllPass Refused plan.graph all → Holds a.fault
+    ran : (g : Graph) → IfSome (contents graph_file.name) (λ bytes. graph_by blocks graph_file bytes ≡ Ok g) → plan.graph ≡ g → AreRows contents plan.graph all → AllPass Refused plan.graph all → Holds a.fault
     ran g file same are in_time = record {
       run = λ e. record {
         graph = plan.graph;
         rank = rank_of plan.ranks;
         level = level_of plan.ranks;
         rows = rows;
-        file = subst (λ h. IfSome (contents name) (λ bytes. graph_of blocks bytes ≡ Ok h)) (sym same) file;
+        file = subst (λ h. IfSome (contents graph_file.name) (λ bytes. graph_by blocks graph_file bytes ≡ Ok h)) (sym same) file;
         sensors = (all, are, in_time, refl);
         leaves = leaves;
         readings = record { plan = plan; graph = refl; levels = refl; readings = k.leaves.readings };
@@ -198,9 +198,9 @@ module _ (contents : Contents) (blocks : List Named) (name : List ℕ) (workers 
       late_row = λ actor row seen limit e. absurd (both (has_run a.fault) k.ran (ap has_run e));
     }
 
-  over_graph : (g : Graph) → IfSome (contents name) (λ bytes. graph_of blocks bytes ≡ Ok g) → AfterAdmission contents g (name ∷ []) a (HasRunBy workers clock log a) → Holds a.fault
+  over_graph : (g : Graph) → IfSome (contents graph_file.name) (λ bytes. graph_by blocks graph_file bytes ≡ Ok g) → AfterAdmission contents g (graph_file.name ∷ []) a (HasRunBy workers clock log a) → Holds a.fault
   over_graph g file h =
-      by_admission contents a Holds g (name ∷ []) (HasRunBy workers clock log a) h
+      by_admission contents a Holds g (graph_file.name ∷ []) (HasRunBy workers clock log a) h
       (λ actors is cycle. refused (fault.Cycle actors) is refl (λ platform actor tag reading limit e. absurd cc) (λ actor row seen limit e. absurd cc))
       (λ free send offset slack is first. refused (fault.Infeasible send offset slack) is refl (λ platform actor tag reading limit e. absurd cc) (λ actor row seen limit e. absurd cc))
       (λ free feasible sensor is unread. refused (fault.Read (Some sensor)) is refl (λ platform actor tag reading limit e. absurd cc) (λ actor row seen limit e. absurd cc))
@@ -208,13 +208,13 @@ module _ (contents : Contents) (blocks : List Named) (name : List ℕ) (workers 
       (λ free feasible actor row seen limit is tardy. late g file actor row seen limit is tardy)
       (λ plan rows same admitted are in_time k. ran plan rows admitted k g file same are in_time)
 
-  holds : UnlessMemory a (IsDueTo (over (Run workers clock log) name) contents blocks) → Holds a.fault
+  holds : UnlessMemory a (IsDueTo (over (Run workers clock log) graph_file) contents blocks) → Holds a.fault
   holds (inl h) = with_fault contents a Holds fault.Memory h (refused fault.Memory h refl (λ platform actor tag reading limit e. absurd cc) (λ actor row seen limit e. absurd cc))
   holds (inr h) =
-      by_file contents a Holds blocks name (λ g. AfterAdmission contents g (name ∷ []) a (HasRunBy workers clock log a)) h
+      by_file contents a Holds blocks graph_file (λ g. AfterAdmission contents g (graph_file.name ∷ []) a (HasRunBy workers clock log a)) h
       (λ is unread. refused (fault.Read None) is refl (λ platform actor tag reading limit e. absurd cc) (λ actor row seen limit e. absurd cc))
       (λ f is fails. refused (fault.Graph f) is refl (λ platform actor tag reading limit e. absurd cc) (λ actor row seen limit e. absurd cc))
       over_graph
 
 pub headline : (order : Option Order) (contents : Contents) (blocks : List Named) (a : Answer) → IsDue order contents blocks a → HasHeadline a.fault a.left order contents blocks a.wrote
-headline order contents blocks a due workers clock log name words = holds contents blocks name workers clock log a (subst (λ z. IsDue z contents blocks a) words due)
+headline order contents blocks a due workers clock log graph_file words = holds contents blocks graph_file workers clock log a (subst (λ z. IsDue z contents blocks a) words due)

@@ -14,7 +14,7 @@ use Rattle.pt_turn.specs.Platforms.{PlatformView}
 use Rattle.pt_audit.specs.Parsing.Lines.{text_lines}
 use Rattle.pt_audit.specs.Parsing.Places.{IsLogAt}
 use Rattle.pt_audit.proofs.Parsing.BlockTexts.{concat_lines}
-use Rattle.pt_types.specs.Limits.{most_log_bytes}
+use Rattle.pt_audit.specs.Limits.{log_limit}
 use Rattle.pt_audit.specs.Verdicts.{IsHead, IsVerdict}
 use Rattle.pt_audit.specs.declared.verdict.Verdict.{Verdict}
 use Rattle.pt_audit.specs.declared.verdict.Verdict.TheVariants.{TooLong, NoLog, Turn, Unfinished, Unlinked, Table, Fine}
@@ -130,7 +130,7 @@ longer : (most : ℕ) (bytes : List ℕ) → most < length (take (most + 1) byte
 longer most bytes long = grind (arith, nat_tests, length-take (most + 1) bytes)
 
 -- each log that is refused by another verdict than `TooLong` is short
-refused_short : (plan : Parts) (rows : ℕ → List Row) (bytes : List ℕ) (v : Verdict) → v ≢ TooLong → Refuses plan rows bytes v → length bytes ≤ most_log_bytes
+refused_short : (plan : Parts) (rows : ℕ → List Row) (bytes : List ℕ) (v : Verdict) → v ≢ TooLong → Refuses plan rows bytes v → length bytes ≤ log_limit plan.graph.claims
 refused_short plan rows bytes TooLong ne k = absurd (ne refl)
 refused_short plan rows bytes NoLog ne k = k.0
 refused_short plan rows bytes (Turn line) ne k = k.short
@@ -142,11 +142,11 @@ refused_short plan rows bytes Fine ne k = absurd k
 not_both : (a b : ℕ) → a < b → b ≤ a → ⊥
 not_both a b lt le = omega (arith, lt, le)
 
-too_long : (plan : Parts) (rows : ℕ → List Row) (bytes : List ℕ) → most_log_bytes < length bytes → IsUnlawful plan rows bytes TooLong
-too_long plan rows bytes long = record { refuses = long; only = only; never = λ lawful. not_both most_log_bytes (length bytes) long lawful.short }
+too_long : (plan : Parts) (rows : ℕ → List Row) (bytes : List ℕ) → log_limit plan.graph.claims < length bytes → IsUnlawful plan rows bytes TooLong
+too_long plan rows bytes long = record { refuses = long; only = only; never = λ lawful. not_both (log_limit plan.graph.claims) (length bytes) long lawful.short }
   where
     short : (v : Verdict) → v ≢ TooLong → Refuses plan rows bytes v → v ≡ TooLong
-    short v ne k = absurd (not_both most_log_bytes (length bytes) long (refused_short plan rows bytes v ne k))
+    short v ne k = absurd (not_both (log_limit plan.graph.claims) (length bytes) long (refused_short plan rows bytes v ne k))
 
     only : (other : Verdict) → Refuses plan rows bytes other → other ≡ TooLong
     only TooLong k = refl
@@ -158,23 +158,23 @@ too_long plan rows bytes long = record { refuses = long; only = only; never = λ
     only Fine k = absurd k
 
 -- what they say of a file the whole file says
-judged_whole : (plan : Parts) (rows : ℕ → List Row) (bytes : List ℕ) (v : Verdict) → IsJudged plan rows (take (most_log_bytes + 1) bytes) v → IsJudged plan rows bytes v
+judged_whole : (plan : Parts) (rows : ℕ → List Row) (bytes : List ℕ) (v : Verdict) → IsJudged plan rows (take (log_limit plan.graph.claims + 1) bytes) v → IsJudged plan rows bytes v
 judged_whole plan rows bytes v k = by_verdict v k
   where
-    unlawful : (u : Verdict) → u ≢ TooLong → IsUnlawful plan rows (take (most_log_bytes + 1) bytes) u → IsUnlawful plan rows bytes u
-    unlawful u ne k = subst (λ bs. IsUnlawful plan rows bs u) (whole most_log_bytes bytes (refused_short plan rows (take (most_log_bytes + 1) bytes) u ne k.refuses)) k
+    unlawful : (u : Verdict) → u ≢ TooLong → IsUnlawful plan rows (take (log_limit plan.graph.claims + 1) bytes) u → IsUnlawful plan rows bytes u
+    unlawful u ne k = subst (λ bs. IsUnlawful plan rows bs u) (whole (log_limit plan.graph.claims) bytes (refused_short plan rows (take (log_limit plan.graph.claims + 1) bytes) u ne k.refuses)) k
 
-    by_verdict : (u : Verdict) → IsJudged plan rows (take (most_log_bytes + 1) bytes) u → IsJudged plan rows bytes u
-    by_verdict TooLong k = too_long plan rows bytes (longer most_log_bytes bytes k.refuses)
+    by_verdict : (u : Verdict) → IsJudged plan rows (take (log_limit plan.graph.claims + 1) bytes) u → IsJudged plan rows bytes u
+    by_verdict TooLong k = too_long plan rows bytes (longer (log_limit plan.graph.claims) bytes k.refuses)
     by_verdict NoLog k = unlawful NoLog (λ e. absurd cc) k
     by_verdict (Turn line) k = unlawful (Turn line) (λ e. absurd cc) k
     by_verdict (Unfinished i) k = unlawful (Unfinished i) (λ e. absurd cc) k
     by_verdict (Unlinked l) k = unlawful (Unlinked l) (λ e. absurd cc) k
     by_verdict Table k = unlawful Table (λ e. absurd cc) k
-    by_verdict Fine k = subst (Accepts plan rows) (whole most_log_bytes bytes k.lawful.short) k
+    by_verdict Fine k = subst (Accepts plan rows) (whole (log_limit plan.graph.claims) bytes k.lawful.short) k
 
 -- so what is found of the fetched bytes holds of the content
-pub judged_content : (plan : Parts) (rows : ℕ → List Row) (content : Option (List ℕ)) (fetched : List ℕ) (v : Verdict) → IfSome content (λ bytes. fetched ≡ take (most_log_bytes + 1) bytes) → IsJudged plan rows fetched v → IfSome content (λ bytes. IsJudged plan rows bytes v)
+pub judged_content : (plan : Parts) (rows : ℕ → List Row) (content : Option (List ℕ)) (fetched : List ℕ) (v : Verdict) → IfSome content (λ bytes. fetched ≡ take (log_limit plan.graph.claims + 1) bytes) → IsJudged plan rows fetched v → IfSome content (λ bytes. IsJudged plan rows bytes v)
 judged_content plan rows None fetched v h k = tt
 judged_content plan rows (Some bytes) fetched v h k = judged_whole plan rows bytes v (subst (λ bs. IsJudged plan rows bs v) h k)
 

@@ -4,7 +4,6 @@ use Rattle.pt_io.specs.Causes.{Appends}
 use Rattle.pt_types.specs.declared.graph.Graph.{Graph}
 use Rattle.pt_types.specs.declared.rows.Row.{Row}
 use Rattle.pt_blocks.specs.declared.blocks.Named.{Named}
-use Rattle.pt_graph.specs.GraphOf.{graph_of}
 use Rattle.pt_semantics.specs.History.{IsLegal}
 use Rattle.pt_semantics.specs.Tables.{tables_text}
 use Rattle.pt_causality.specs.Ranked.{level_of}
@@ -27,10 +26,11 @@ use Rattle.pt_run.specs.Leaving.{PutsMeaning, RunWith}
 use Rattle.pt_run.specs.LawfulRuns.{FinishedRunsAreLawful, ReplaysWriteLawfulLogs, RunsWriteLawfulLogs, WritesLawfulLog}
 use Rattle.pt_run.specs.Replaying.{LeavesReplay}
 use Rattle.pt_run.specs.Runs.{IsKept}
-use Rattle.pt_words.specs.Grammar.{over}
+use Rattle.pt_words.specs.Grammar.{GraphFile, over}
 use Rattle.pt_run.specs.Written.{Leaves, stop_of}
 use Rattle.pt_run.proofs.Finished.{kept_finished}
 use Rattle.pt_run.proofs.Stages.{by_admission, by_file, with_fault}
+use Rattle.pt_run.specs.GraphFiles.{graph_by}
 
 pub finished_is_lawful : FinishedRunsAreLawful
 finished_is_lawful contents c plan platforms misses text done short =
@@ -48,11 +48,11 @@ put_lawful left plan rows w admitted puts finished legal = (
   λ short. printed_is_lawful plan rows left.platforms puts.firings (tables_text plan.graph puts.firings ++ log_text plan.graph (histories left.platforms)) admitted finished legal (puts.held refl) puts.meaning refl short,
 )
 
-module _ (a : Answer) (workers : ℕ) (clock : ClockChoice) (contents : Contents) (blocks : List Named) (name : List ℕ) where
+module _ (a : Answer) (workers : ℕ) (clock : ClockChoice) (contents : Contents) (blocks : List Named) (graph_file : GraphFile) where
   abbrev Lawful : Option Fault → Type 0
-  Lawful o = o ≡ None → RunWith contents blocks name (WritesLawfulLog a.wrote)
+  Lawful o = o ≡ None → RunWith contents blocks graph_file (WritesLawfulLog a.wrote)
 
-  ran : (plan : Parts) (all : ℕ → List Row) → IfSome (contents name) (λ bytes. graph_of blocks bytes ≡ Ok plan.graph) → IsAdmitted plan → AreRows contents plan.graph all → AllPass Refused plan.graph all → HasRunBy workers clock true a plan (of_run plan.graph all) → Lawful a.fault
+  ran : (plan : Parts) (all : ℕ → List Row) → IfSome (contents graph_file.name) (λ bytes. graph_by blocks graph_file bytes ≡ Ok plan.graph) → IsAdmitted plan → AreRows contents plan.graph all → AllPass Refused plan.graph all → HasRunBy workers clock true a plan (of_run plan.graph all) → Lawful a.fault
   ran plan all file admitted are in_time k none =
       let rows : ℕ → List Row = of_run plan.graph all in
       let puts = k.leaves.written none in
@@ -68,21 +68,21 @@ module _ (a : Answer) (workers : ℕ) (clock : ClockChoice) (contents : Contents
         };
       }
 
-  over_graph : (g : Graph) → IfSome (contents name) (λ bytes. graph_of blocks bytes ≡ Ok g) → AfterAdmission contents g (name ∷ []) a (HasRunBy workers clock true a) → Lawful a.fault
+  over_graph : (g : Graph) → IfSome (contents graph_file.name) (λ bytes. graph_by blocks graph_file bytes ≡ Ok g) → AfterAdmission contents g (graph_file.name ∷ []) a (HasRunBy workers clock true a) → Lawful a.fault
   over_graph g file h =
-      by_admission contents a Lawful g (name ∷ []) (HasRunBy workers clock true a) h (λ actors is cycle e. absurd cc) (λ free send offset slack is first e. absurd cc)
+      by_admission contents a Lawful g (graph_file.name ∷ []) (HasRunBy workers clock true a) h (λ actors is cycle e. absurd cc) (λ free send offset slack is first e. absurd cc)
       (λ free feasible sensor is unread e. absurd cc) (λ free feasible sensor f is fails e. absurd cc) (λ free feasible actor row seen limit is tardy e. absurd cc)
-      (λ plan all same admitted are in_time k. ran plan all (subst (λ h. IfSome (contents name) (λ bytes. graph_of blocks bytes ≡ Ok h)) (sym same) file) admitted are in_time k)
+      (λ plan all same admitted are in_time k. ran plan all (subst (λ h. IfSome (contents graph_file.name) (λ bytes. graph_by blocks graph_file bytes ≡ Ok h)) (sym same) file) admitted are in_time k)
 
-  of_due : UnlessMemory a (IsDueTo (over (Run workers clock true) name) contents blocks) → Lawful a.fault
+  of_due : UnlessMemory a (IsDueTo (over (Run workers clock true) graph_file) contents blocks) → Lawful a.fault
   of_due (inl h) = with_fault contents a Lawful fault.Memory h (λ e. absurd cc)
-  of_due (inr h) = by_file contents a Lawful blocks name (λ g. AfterAdmission contents g (name ∷ []) a (HasRunBy workers clock true a)) h (λ is unread e. absurd cc) (λ f is fails e. absurd cc) over_graph
+  of_due (inr h) = by_file contents a Lawful blocks graph_file (λ g. AfterAdmission contents g (graph_file.name ∷ []) a (HasRunBy workers clock true a)) h (λ is unread e. absurd cc) (λ f is fails e. absurd cc) over_graph
 
 pub writes_lawful : RunsWriteLawfulLogs
 writes_lawful = of_due
 
 pub replay_writes_lawful : ReplaysWriteLawfulLogs
-replay_writes_lawful left contents blocks name air w h =
+replay_writes_lawful left contents blocks graph_file air w h =
     let run = h.run refl in
     let over = run.over in
     let leaves : LeavesReplay true None left w run.plan (of_run run.plan.graph over.rows) over.fact.recorded = over.fact.fact in

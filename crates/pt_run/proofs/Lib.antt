@@ -1,4 +1,5 @@
 pub mod ByFault
+pub mod GraphFiles
 pub mod CauseFields
 pub mod ByCause
 pub mod OneDue
@@ -28,6 +29,7 @@ pub mod PastRows
 pub mod AirFound
 pub mod Headline
 pub mod WritesTables
+pub mod UsualHeadline
 pub mod CauseTable
 pub mod OneCause
 pub mod Exact

@@ -1,6 +1,6 @@
 -- Runs over made inputs.
 use Rattle.std.proofs.Common.{◌≡◌, ◌≢◌, ℕ, suc, ◌+◌, ◌<◌, ◌≤◌, List, [], ◌∷◌, Option, None, Some, ℤ, pos, ◌-ℤ◌, ◌+ℤ◌, ◌<ℤ◌, length, option_map, slice_get, arith, append-nil, refl, sym, ap, subst, ◌∙◌, inl, ⊎_elim, inr}
-use Rattle.std.specs.Prelude.{String, flat_map, ⊤}
+use Rattle.std.specs.Prelude.{String, flat_map}
 use Rattle.std.specs.declared.alloc.Global.{Global}
 use Rattle.std.proofs.lemmas.Int.{ints}
 use Rattle.std.proofs.lemmas.Option.{slice_get_within}

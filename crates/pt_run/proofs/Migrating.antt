@@ -3,10 +3,10 @@ use Rattle.std.proofs.Common.{◌≡◌, ℕ, ◌≤◌, ◌++◌, List, [], ◌
 use Rattle.pt_types.specs.declared.graph.Graph.{Graph}
 use Rattle.pt_types.specs.Limits.{most_graph_bytes}
 use Rattle.pt_blocks.specs.declared.blocks.Named.{Named}
-use Rattle.pt_graph.specs.GraphOf.{graph_of}
 use Rattle.pt_graph_writer.specs.Text.{graph_text}
 use Rattle.pt_graph_writer.specs.RoundTrip.{ReadsBack}
 use Rattle.pt_run.specs.Migrating.{IsDefined, IsMigrated}
+use Rattle.pt_graph.specs.GraphOf.{graph_of}
 
 -- the text of a graph that a file defines, with a line feed
 pub is_migrated : (g : Graph) (blocks : List Named) (text line : List ℕ) → IsDefined blocks g → text ≡ graph_text g blocks → ReadsBack g blocks (text ++ 10 ∷ []) → line ≡ text ++ 10 ∷ [] → IsMigrated g blocks line

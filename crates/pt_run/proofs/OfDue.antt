@@ -1,6 +1,6 @@
 -- The clauses of the top call, of what is due.
 use Rattle.std.proofs.Common.{◌≡◌, ℕ, List, Option, None}
-use Rattle.std.specs.Prelude.{◌≢◌, ◌↔◌, [], flat_map}
+use Rattle.std.specs.Prelude.{IfSome, ◌≢◌, ◌↔◌, [], flat_map}
 use Rattle.pt_blocks.specs.declared.blocks.Named.{Named}
 use Rattle.pt_monitors.specs.Platforms.{missed_by}
 use Rattle.pt_io.specs.Calls.{Contents}
@@ -12,6 +12,7 @@ use Rattle.pt_run.specs.OverFiles.{HasHeadline}
 use Rattle.pt_run.specs.Replaying.{IsReplayHeadline}
 use Rattle.pt_run.specs.Statuses.{status_of}
 use Rattle.pt_words.specs.Grammar.{Order}
+use Rattle.pt_words.specs.Claims.{HasFewClaims}
 use Rattle.pt_run.proofs.ByFault.{Ends}
 use Rattle.pt_run.proofs.CauseTable.{caused}
 use Rattle.pt_run.proofs.Complete as completes
@@ -32,8 +33,8 @@ module _ (order : Option Order) (contents : Contents) (blocks : List Named) (a :
   pub replay_headline : IsReplayHeadline a.fault a.left order contents blocks a.wrote
   replay_headline = replays.replay_headline order contents blocks a due
 
-  pub exact : IsExact a.fault order contents blocks
-  exact = exactly order contents blocks a (comes.exact a.fault a.left order contents blocks a.read a.wrote ends) due
+  pub exact : IfSome order HasFewClaims → IsExact a.fault order contents blocks
+  exact few = exactly order contents blocks a few (comes.exact a.fault a.left order contents blocks a.read a.wrote ends) due
 
   pub complete_by_any_clock : IsCompleteByAnyClock a.fault a.left order contents blocks a.read a.wrote
   complete_by_any_clock = completes.complete_by_any_clock a.fault a.left order contents blocks a.read a.wrote ends

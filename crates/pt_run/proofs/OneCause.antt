@@ -31,6 +31,7 @@ use Rattle.pt_run.proofs.RunsAgreeing.{rows_are_one}
 use Rattle.pt_run.specs.declared.fault.Fault.TheVariants as fault
 use Rattle.pt_run.specs.Causes.{IsTooLongForAll}
 use Rattle.pt_run.proofs.Complete.{agrees, ok_err, same_ok}
+use Rattle.pt_sensors.specs.Limits.{file_limits}
 
 pub same_err : {X E : Type 0} (x y : E) → ◌≡◌ {A = Result X E} (Err x) (Err y) → x ≡ y
 same_err x y e = cc
@@ -85,21 +86,21 @@ same_sensor file file2 bound bound2 e = (cc, cc)
 
 -- over files with known contents one sensor at most is the first that gives no rows
 module _ (contents : Contents) (g : Graph) (reported : ReportsSensors contents g) where
-  pub fails_rows : (late : LateRows) (actor : ℕ) (f : RowFault) (rows : List Row) → SensorFails late contents g actor f → RowsOfKind contents (kind_of g actor) rows → ⊥
+  pub fails_rows : (late : LateRows) (actor : ℕ) (f : RowFault) (rows : List Row) → SensorFails late contents g actor f → RowsOfKind (file_limits g.claims) contents (kind_of g actor) rows → ⊥
   fails_rows late actor f rows h are =
       let (bytes, is) = reported actor h.file h.bound h.sensor in
-      ok_err rows f (agrees rows_of (contents h.file) bytes (Ok rows) (Err f) is (subst (λ (k : Kind). RowsOfKind contents k rows) h.sensor are) h.fails)
+      ok_err rows f (agrees (rows_of (file_limits g.claims)) (contents h.file) bytes (Ok rows) (Err f) is (subst (λ (k : Kind). RowsOfKind (file_limits g.claims) contents k rows) h.sensor are) h.fails)
 
-  late_rows : (actor row seen limit : ℕ) (rows : List Row) → SensorLate contents g actor row seen limit → RowsOfKind contents (kind_of g actor) rows → InTime g.until (kind_of g actor) rows → ⊥
+  late_rows : (actor row seen limit : ℕ) (rows : List Row) → SensorLate contents g actor row seen limit → RowsOfKind (file_limits g.claims) contents (kind_of g actor) rows → InTime g.until (kind_of g actor) rows → ⊥
   late_rows actor row seen limit rows h are in_time =
       let (bytes, is) = reported actor h.file h.bound h.sensor in
-      let same : rows ≡ h.rows = same_ok {E = RowFault} rows h.rows (agrees rows_of (contents h.file) bytes (Ok rows) (Ok h.rows) is (subst (λ (k : Kind). RowsOfKind contents k rows) h.sensor are) h.read) in
+      let same : rows ≡ h.rows = same_ok {E = RowFault} rows h.rows (agrees (rows_of (file_limits g.claims)) (contents h.file) bytes (Ok rows) (Ok h.rows) is (subst (λ (k : Kind). RowsOfKind (file_limits g.claims) contents k rows) h.sensor are) h.read) in
       let passes : late_row h.bound g.until rows ≡ None = subst (λ (k : Kind). InTime g.until k rows) h.sensor in_time in
       none_some row (sym passes ∙ ap (late_row h.bound g.until) same ∙ h.is_late.first)
 
   -- the rows of a sensor, of which one is late
-  rows_there : (actor row seen limit : ℕ) (h : SensorLate contents g actor row seen limit) → RowsOfKind contents (kind_of g actor) h.rows
-  rows_there actor row seen limit h = subst (λ (k : Kind). RowsOfKind contents k h.rows) (sym h.sensor) h.read
+  rows_there : (actor row seen limit : ℕ) (h : SensorLate contents g actor row seen limit) → RowsOfKind (file_limits g.claims) contents (kind_of g actor) h.rows
+  rows_there actor row seen limit h = subst (λ (k : Kind). RowsOfKind (file_limits g.claims) contents k h.rows) (sym h.sensor) h.read
 
   fails_earlier : (late : LateRows) (actor n : ℕ) (f : RowFault) → SensorFails late contents g actor f → HaveRows late contents g n → actor < n → ⊥
   fails_earlier late actor n f h have l = let (rows, are, passes) = have actor l in fails_rows late actor f rows h are
@@ -113,7 +114,7 @@ module _ (contents : Contents) (g : Graph) (reported : ReportsSensors contents g
       let moved : SensorFails late contents g actor e = subst (λ z. SensorFails late contents g z e) same k in
       let files = same_sensor moved.file h.file moved.bound h.bound (sym moved.sensor ∙ h.sensor) in
       let (bytes, is) = reported actor h.file h.bound h.sensor in
-      let faults : e ≡ f = same_err {X = List Row} e f (agrees rows_of (contents h.file) bytes (Err e) (Err f) is (subst (λ z. IfSome (contents z) (λ bytes. rows_of bytes ≡ Err e)) files.0 moved.fails) h.fails) in
+      let faults : e ≡ f = same_err {X = List Row} e f (agrees (rows_of (file_limits g.claims)) (contents h.file) bytes (Err e) (Err f) is (subst (λ z. IfSome (contents z) (λ bytes. rows_of (file_limits g.claims) bytes ≡ Err e)) files.0 moved.fails) h.fails) in
       λ i. fault.Sensor (same i) (faults i)
 
   pub fails_late : (actor other row seen limit : ℕ) (f : RowFault) → SensorFails Refused contents g actor f → SensorLate contents g other row seen limit → ⊥
@@ -128,7 +129,7 @@ module _ (contents : Contents) (g : Graph) (reported : ReportsSensors contents g
       let moved : SensorLate contents g actor row2 seen2 limit2 = subst (λ z. SensorLate contents g z row2 seen2 limit2) same k in
       let files = same_sensor moved.file h.file moved.bound h.bound (sym moved.sensor ∙ h.sensor) in
       let (bytes, is) = reported actor h.file h.bound h.sensor in
-      let rows : moved.rows ≡ h.rows = same_ok {E = RowFault} moved.rows h.rows (agrees rows_of (contents h.file) bytes (Ok moved.rows) (Ok h.rows) is (subst (λ z. IfSome (contents z) (λ bytes. rows_of bytes ≡ Ok moved.rows)) files.0 moved.read) h.read) in
+      let rows : moved.rows ≡ h.rows = same_ok {E = RowFault} moved.rows h.rows (agrees (rows_of (file_limits g.claims)) (contents h.file) bytes (Ok moved.rows) (Ok h.rows) is (subst (λ z. IfSome (contents z) (λ bytes. rows_of (file_limits g.claims) bytes ≡ Ok moved.rows)) files.0 moved.read) h.read) in
       let is_late : IsLateRow h.rows g.until h.bound row2 seen2 limit2 = subst (λ b. IsLateRow h.rows g.until b row2 seen2 limit2) files.1 (subst (λ rs. IsLateRow rs g.until moved.bound row2 seen2 limit2) rows moved.is_late) in
       let parts = one_late_row h.rows g.until h.bound row2 row seen2 seen limit2 limit is_late h.is_late in
       λ i. fault.LateRow (same i) (parts.0 i) (parts.1 i) (parts.2 i)

@@ -1,5 +1,5 @@
 -- What is found of a log is the same by each admitted plan of one graph.
-use Rattle.std.proofs.Common.{◌≡◌, ℕ, List, sym, ap, subst, ◌∙◌}
+use Rattle.std.proofs.Common.{◌≡◌, ◌≤◌, ◌<◌, ℕ, List, length, sym, ap, subst, ◌∙◌}
 use Rattle.pt_types.specs.declared.graph.Graph.{Graph}
 use Rattle.pt_types.specs.declared.rows.Row.{Row}
 use Rattle.pt_semantics.specs.Linked.{AreLinked}
@@ -11,6 +11,7 @@ use Rattle.pt_causality.specs.Ranked.{level_of, rank_of}
 use Rattle.pt_offsets.specs.Plans.{IsAdmitted, Parts}
 use Rattle.pt_audit.specs.Parsing.Lines.{Block}
 use Rattle.pt_audit.specs.LawfulLogs.{IsLawfulLog}
+use Rattle.pt_audit.specs.Limits.{log_limit}
 use Rattle.pt_audit.specs.Verdicts.{AllAreFinished, HasLog, IsFirstUnfinished, IsFirstUnlinked, IsHead, IsVerdict, IsVerdictOn, StopsAt, AllBlocksSay}
 use Rattle.pt_audit.specs.declared.verdict.Verdict.{Verdict}
 use Rattle.pt_audit.specs.declared.verdict.Verdict.TheVariants.{TooLong, NoLog, Turn, Unfinished, Unlinked, Table, Fine}
@@ -37,12 +38,15 @@ module _ (p q : Parts) (rows : ℕ → List Row) (bytes : List ℕ) (one : IsAdm
   verdict_on (Unlinked l) blocks k = by_levels (λ g level. AllBlocksSay g level rows blocks (λ histories ends. AllAreFinished g ends × IsFirstUnlinked g l histories)) k
   verdict_on Fine blocks k = by_levels (λ g level. AllBlocksSay g level rows blocks (λ histories ends. AllAreFinished g ends × AreLinked g histories)) k
 
-  on_file : (v : Verdict) → HasLog bytes (λ blocks. IsVerdictOn p rows blocks v) → HasLog bytes (λ blocks. IsVerdictOn q rows blocks v)
-  on_file v k = record { short = k.short; head = k.head; rest = k.rest; lines = k.lines; fact = verdict_on v _ k.fact }
+  is_short : length bytes ≤ log_limit p.graph.claims → length bytes ≤ log_limit q.graph.claims
+  is_short h = subst (λ (g : Graph). length bytes ≤ log_limit g.claims) same h
+
+  on_file : (v : Verdict) → HasLog (log_limit p.graph.claims) bytes (λ blocks. IsVerdictOn p rows blocks v) → HasLog (log_limit q.graph.claims) bytes (λ blocks. IsVerdictOn q rows blocks v)
+  on_file v k = record { short = is_short k.short; head = k.head; rest = k.rest; lines = k.lines; fact = verdict_on v _ k.fact }
 
   pub same_verdict : (v : Verdict) → IsVerdict p rows bytes v → IsVerdict q rows bytes v
-  same_verdict TooLong k = k
-  same_verdict NoLog k = k
+  same_verdict TooLong k = subst (λ (g : Graph). log_limit g.claims < length bytes) same k
+  same_verdict NoLog k = (is_short k.0, k.1)
   same_verdict (Turn line) k = on_file (Turn line) k
   same_verdict (Unfinished i) k = on_file (Unfinished i) k
   same_verdict (Unlinked l) k = on_file (Unlinked l) k

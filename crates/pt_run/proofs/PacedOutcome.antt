@@ -1,5 +1,5 @@
 -- Platforms after a paced run.
-use Rattle.std.proofs.Common.{◌≡◌, ◌==◌, ℕ, Bool, true, false, if◌then◌else◌, List, [], Option, Some, ◌<◌, slice_get, refl, ap, subst, ◌∙◌, eqb-true}
+use Rattle.std.proofs.Common.{◌≡◌, ◌==◌, ℕ, Bool, true, false, if◌then◌else◌, List, [], Option, Some, slice_get, refl, ap, subst, eqb-true}
 use Rattle.std.proofs.Math.Path.{fun_ext}
 use Rattle.pt_types.specs.declared.graph.Graph.{Graph}
 use Rattle.pt_types.specs.declared.rows.Row.{Row}

@@ -11,21 +11,22 @@ use Rattle.pt_run.specs.Reporting.{paced_run}
 use Rattle.pt_run.specs.Written.{Leaves}
 use Rattle.pt_run.proofs.ByFault.{EndsAudit, EndsBy, EndsReplay}
 use Rattle.pt_run.proofs.Stages.{not_true}
+use Rattle.pt_words.specs.Grammar.{GraphFile}
 
 -- the graph file defines an admitted graph, and its sensors' files have rows, none of which is late
-abbrev pub HasRows : Contents → List Named → List ℕ → Type 0
-HasRows contents blocks name = RunWith contents blocks name (λ plan rows. Unit {0})
+abbrev pub HasRows : Contents → List Named → GraphFile → Type 0
+HasRows contents blocks graph_file = RunWith contents blocks graph_file (λ plan rows. Unit {0})
 
-pub data PastRows (left : Leaves) (name : List ℕ) (contents : Contents) (blocks : List Named) (r : SourceCall) (w : SinkCall) (outcome : Option Fault) : Type 0 where
-  past_rows : HasRows contents blocks name → PastRows left name contents blocks r w outcome
-  as_run : EndsBy outcome left (Some (paced_run, name)) contents blocks r w → PastRows left name contents blocks r w outcome
+pub data PastRows (left : Leaves) (graph_file : GraphFile) (contents : Contents) (blocks : List Named) (r : SourceCall) (w : SinkCall) (outcome : Option Fault) : Type 0 where
+  past_rows : HasRows contents blocks graph_file → PastRows left graph_file contents blocks r w outcome
+  as_run : EndsBy outcome left (Some (paced_run, graph_file)) contents blocks r w → PastRows left graph_file contents blocks r w outcome
 
-module _ (left : Leaves) (name : List ℕ) (contents : Contents) (blocks : List Named) (r : SourceCall) (w : SinkCall) where
-  rows_of : (Fact : Parts → (ℕ → List Row) → Type 0) → RunWith contents blocks name Fact → HasRows contents blocks name
+module _ (left : Leaves) (graph_file : GraphFile) (contents : Contents) (blocks : List Named) (r : SourceCall) (w : SinkCall) where
+  rows_of : (Fact : Parts → (ℕ → List Row) → Type 0) → RunWith contents blocks graph_file Fact → HasRows contents blocks graph_file
   rows_of Fact h = record { plan = h.plan; file = h.file; over = record { admitted = h.over.admitted; rows = h.over.rows; sensors = h.over.sensors; in_time = h.over.in_time; fact = tt } }
 
   module _ (log : List ℕ) where
-    pub audit_past : (o : Option Fault) → EndsAudit o left name log contents blocks r w → PastRows left name contents blocks r w o
+    pub audit_past : (o : Option Fault) → EndsAudit o left graph_file log contents blocks r w → PastRows left graph_file contents blocks r w o
     audit_past None k = past_rows (rows_of _ k.1)
     audit_past (Some fault.Write) k = past_rows (rows_of _ k.1)
     audit_past (Some (fault.Unlawful v)) k = past_rows (rows_of _ k.1)
@@ -46,7 +47,7 @@ module _ (left : Leaves) (name : List ℕ) (contents : Contents) (blocks : List 
     audit_past (Some fault.ReadAir) k = absurd (not_true k.0)
 
   module _ (air : List ℕ) (log : Bool) where
-    pub replay_past : (o : Option Fault) → EndsReplay o left name air log contents blocks r w → PastRows left name contents blocks r w o
+    pub replay_past : (o : Option Fault) → EndsReplay o left graph_file air log contents blocks r w → PastRows left graph_file contents blocks r w o
     replay_past None k = past_rows (rows_of _ k)
     replay_past (Some fault.Write) k = past_rows (rows_of _ k.1)
     replay_past (Some (fault.Long (Some platform))) k = past_rows (rows_of _ k)

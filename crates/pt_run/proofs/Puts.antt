@@ -1,5 +1,5 @@
 -- A flush that fails after a put.
-use Rattle.std.proofs.Common.{◌≡◌, List, ℕ, ◌++◌, Option, Some, None, ap, sym, subst, ◌∙◌, length, ◌≤◌, arith}
+use Rattle.std.proofs.Common.{List, ℕ, ◌++◌, Option, Some, None, ap, sym, subst, ◌∙◌, length, ◌≤◌, arith}
 use Rattle.std.proofs.lemmas.List.{take_all}
 use Rattle.pt_io.specs.Causes.{Appends, AppendsPart, Keeps}
 

@@ -1,5 +1,5 @@
 -- How a replay over a graph ends, by how it ends over its plan.
-use Rattle.std.proofs.Common.{◌≡◌, ◌≢◌, ◌↔◌, ℕ, ◌+◌, Bool, true, false, cond, List, [], Option, Some, None, Result, Ok, Err, IfErr, IfOk, IfSome, length, take, refl, sym, ap, subst, ◌∙◌, inl, inr, ⊎_elim, arith}
+use Rattle.std.proofs.Common.{◌≡◌, ◌≢◌, ℕ, ◌+◌, Bool, true, false, cond, List, [], Option, Some, None, Result, Ok, Err, IfErr, IfOk, IfSome, length, take, refl, sym, ap, subst, ◌∙◌, inl, inr, ⊎_elim, arith}
 use Rattle.std.specs.Prelude.{flat_map, nat_lt, string_bytes}
 use Rattle.std.proofs.lemmas.Bool.Decides.{nat_tests}
 use Rattle.std.proofs.lemmas.List.{length-take, take_all}
@@ -44,6 +44,7 @@ use Rattle.pt_run.specs.Written.{Leaves}
 use Rattle.pt_run.proofs.Ending.{has_nothing}
 use Rattle.pt_run.proofs.ReplayInBounds.{never_late}
 use Rattle.pt_run.proofs.Stages.{past_air}
+use Rattle.pt_sensors.specs.Limits.{file_limits}
 
 -- What is read.
 
@@ -61,11 +62,11 @@ cut limit e f bytes =
     ] refl
 
 -- the first bytes of a recording, one more than it may have, say what all of them say
-rows_of-fetched : (g : Graph) (bytes : List ℕ) → air_rows_of g (take 8388609 bytes) ≡ air_rows_of g bytes
+rows_of-fetched : (g : Graph) (bytes : List ℕ) → air_rows_of g (take ((file_limits g.claims).bytes + 1) bytes) ≡ air_rows_of g bytes
 unfolding air_rows_of
-rows_of-fetched g bytes = cut 8388608 (Err airs.TooLong) (λ bs. air_after_header g (next st.StartRecord (strip_bom bs))) bytes
+rows_of-fetched g bytes = cut (file_limits g.claims).bytes (Err airs.TooLong) (λ bs. air_after_header g (next st.StartRecord (strip_bom bs))) bytes
 
-pub air_of-fetched : (g : Graph) (bytes : List ℕ) → air_of g (take 8388609 bytes) ≡ air_of g bytes
+pub air_of-fetched : (g : Graph) (bytes : List ℕ) → air_of g (take ((file_limits g.claims).bytes + 1) bytes) ≡ air_of g bytes
 air_of-fetched g bytes = ap (λ (rows : Result (List AirRow) AirFault). rows >>= λ rows. Ok (air_with g rows)) (rows_of-fetched g bytes)
 
 -- the recording has a fault

@@ -3,7 +3,6 @@ use Rattle.std.proofs.Common.{◌≡◌, ◌≢◌, [], ◌∷◌, ℕ, Bool, tr
 use Rattle.pt_types.specs.declared.graph.Graph.{Graph}
 use Rattle.pt_types.specs.declared.rows.Row.{Row}
 use Rattle.pt_blocks.specs.declared.blocks.Named.{Named}
-use Rattle.pt_graph.specs.GraphOf.{graph_of}
 use Rattle.pt_semantics.proofs.Lookups.{none_some}
 use Rattle.pt_causality.specs.Ranked.{level_of}
 use Rattle.pt_offsets.specs.Plans.{IsAdmitted, Parts}
@@ -22,20 +21,21 @@ use Rattle.pt_run.specs.declared.fault.Fault.TheVariants as fault
 use Rattle.pt_run.specs.Complete.{OnPlatform}
 use Rattle.pt_run.specs.Due.{AfterAdmission, Answer, IsDue, IsDueTo, IsReplayedBy, RefusedWith, UnlessMemory}
 use Rattle.pt_run.specs.Replaying.{IsReplayHeadline, ReplayHeadline, has_replayed}
-use Rattle.pt_words.specs.Grammar.{Order, replay}
+use Rattle.pt_words.specs.Grammar.{GraphFile, Order, replay}
 use Rattle.pt_run.specs.Written.{Leaves}
 use Rattle.pt_run.proofs.ByFault.{EndsReplay}
 use Rattle.pt_run.proofs.Stages.{not_true}
 use Rattle.pt_run.proofs.Stages.{by_admission, by_file, with_fault}
+use Rattle.pt_run.specs.GraphFiles.{graph_by}
 
 -- the platform that stopped a replay, as its recorded turns show
 pub stopped_in_air : (left : Leaves) (plan : Parts) (rows : ℕ → List Row) (recorded : Air) (platform : ℕ) (f : TurnFault) → IsReplayOutcome plan (level_of plan.ranks) rows recorded left.platforms (Some (platform, f)) →
     OnPlatform left plan.graph platform (λ v. Shows plan.graph v.turns (state_at v) f)
 stopped_in_air left plan rows recorded platform f outcome = let (v, at, is, shows, before) = outcome.ends in (v, at, ap (λ (p : Parts). p.graph) (outcome.all.plans platform v at), shows)
 
-module _ (left : Leaves) (name air : List ℕ) (log : Bool) (contents : Contents) (blocks : List Named) (r : SourceCall) (w : SinkCall) where
+module _ (left : Leaves) (graph_file : GraphFile) (air : List ℕ) (log : Bool) (contents : Contents) (blocks : List Named) (r : SourceCall) (w : SinkCall) where
   -- with any fault but a failed write nothing is written
-  pub unwritten_in_air : (f : Fault) → f ≢ fault.Write → EndsReplay (Some f) left name air log contents blocks r w → w.written_now ≡ w.written_before
+  pub unwritten_in_air : (f : Fault) → f ≢ fault.Write → EndsReplay (Some f) left graph_file air log contents blocks r w → w.written_now ≡ w.written_before
   unwritten_in_air fault.Write never k = absurd (never refl)
   unwritten_in_air fault.Memory never k = k.1
   unwritten_in_air (fault.Air f) never k = k.2
@@ -59,36 +59,36 @@ module _ (left : Leaves) (name air : List ℕ) (log : Bool) (contents : Contents
 not_both : (b : Bool) → b ≡ true → b ≡ false → ⊥
 not_both b e h = cc
 
-module _ (contents : Contents) (blocks : List Named) (name air : List ℕ) (workers : ℕ) (log : Bool) (a : Answer) where
+module _ (contents : Contents) (blocks : List Named) (graph_file : GraphFile) (air : List ℕ) (workers : ℕ) (log : Bool) (a : Answer) where
   abbrev Holds : Option Fault → Type 0
-  Holds o = ReplayHeadline o a.left log contents blocks name air a.wrote
+  Holds o = ReplayHeadline o a.left log contents blocks graph_file air a.wrote
 
   refused : (f : Fault) → RefusedWith f a → has_replayed (Some f) ≡ false → Holds (Some f)
   refused f h none = record { run = λ e. absurd (not_both (has_replayed (Some f)) e none); nothing_else = λ e. (h.1, h.2) }
 
-  replayed : (g : Graph) → IfSome (contents name) (λ bytes. graph_of blocks bytes ≡ Ok g) → (plan : Parts) (all : ℕ → List Row) → plan.graph ≡ g → IsAdmitted plan → AreRows contents plan.graph all → AllPass Refused plan.graph all →
-      IsReplayedBy air log contents g (name ∷ []) a plan (of_run plan.graph all) → Holds a.fault
+  replayed : (g : Graph) → IfSome (contents graph_file.name) (λ bytes. graph_by blocks graph_file bytes ≡ Ok g) → (plan : Parts) (all : ℕ → List Row) → plan.graph ≡ g → IsAdmitted plan → AreRows contents plan.graph all → AllPass Refused plan.graph all →
+      IsReplayedBy air log contents g (graph_file.name ∷ []) a plan (of_run plan.graph all) → Holds a.fault
   replayed g file plan all same admitted are in_time (inl h) = with_fault contents a Holds fault.ReadAir h.0 (refused fault.ReadAir h.0 refl)
   replayed g file plan all same admitted are in_time (inr (inl h)) = with_fault contents a Holds (fault.Air h.0) h.1 (refused (fault.Air h.0) h.1 refl)
   replayed g file plan all same admitted are in_time (inr (inr h)) = record {
     run = λ e. record {
       plan = plan;
-      file = subst (λ z. IfSome (contents name) (λ bytes. graph_of blocks bytes ≡ Ok z)) (sym same) file;
+      file = subst (λ z. IfSome (contents graph_file.name) (λ bytes. graph_by blocks graph_file bytes ≡ Ok z)) (sym same) file;
       over = record { admitted = admitted; rows = all; sensors = are; in_time = in_time; fact = h.leaves };
     };
     nothing_else = λ e. absurd (not_both (has_replayed a.fault) h.ran e);
   }
 
-  over_graph : (g : Graph) → IfSome (contents name) (λ bytes. graph_of blocks bytes ≡ Ok g) → AfterAdmission contents g (name ∷ []) a (IsReplayedBy air log contents g (name ∷ []) a) → Holds a.fault
+  over_graph : (g : Graph) → IfSome (contents graph_file.name) (λ bytes. graph_by blocks graph_file bytes ≡ Ok g) → AfterAdmission contents g (graph_file.name ∷ []) a (IsReplayedBy air log contents g (graph_file.name ∷ []) a) → Holds a.fault
   over_graph g file h =
-      by_admission contents a Holds g (name ∷ []) (IsReplayedBy air log contents g (name ∷ []) a) h (λ actors is cycle. refused (fault.Cycle actors) is refl)
+      by_admission contents a Holds g (graph_file.name ∷ []) (IsReplayedBy air log contents g (graph_file.name ∷ []) a) h (λ actors is cycle. refused (fault.Cycle actors) is refl)
       (λ free send offset slack is first. refused (fault.Infeasible send offset slack) is refl) (λ free feasible sensor is unread. refused (fault.Read (Some sensor)) is refl)
       (λ free feasible sensor f is fails. refused (fault.Sensor sensor f) is refl) (λ free feasible actor row seen limit is tardy. refused (fault.LateRow actor row seen limit) is refl) (replayed g file)
 
-  holds : UnlessMemory a (IsDueTo (replay name air workers log) contents blocks) → Holds a.fault
+  holds : UnlessMemory a (IsDueTo (replay graph_file air workers log) contents blocks) → Holds a.fault
   holds (inl h) = with_fault contents a Holds fault.Memory h (refused fault.Memory h refl)
   holds (inr h) =
-      by_file contents a Holds blocks name (λ g. AfterAdmission contents g (name ∷ []) a (IsReplayedBy air log contents g (name ∷ []) a)) h (λ is unread. refused (fault.Read None) is refl) (λ f is fails. refused (fault.Graph f) is refl) over_graph
+      by_file contents a Holds blocks graph_file (λ g. AfterAdmission contents g (graph_file.name ∷ []) a (IsReplayedBy air log contents g (graph_file.name ∷ []) a)) h (λ is unread. refused (fault.Read None) is refl) (λ f is fails. refused (fault.Graph f) is refl) over_graph
 
 pub replay_headline : (order : Option Order) (contents : Contents) (blocks : List Named) (a : Answer) → IsDue order contents blocks a → IsReplayHeadline a.fault a.left order contents blocks a.wrote
-replay_headline order contents blocks a due workers log name air words = holds contents blocks name air workers log a (subst (λ z. IsDue z contents blocks a) words due)
+replay_headline order contents blocks a due workers log graph_file air words = holds contents blocks graph_file air workers log a (subst (λ z. IsDue z contents blocks a) words due)

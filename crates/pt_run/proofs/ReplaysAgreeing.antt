@@ -7,7 +7,6 @@ use Rattle.pt_io.specs.Causes.{Appends}
 use Rattle.pt_types.specs.declared.graph.Graph.{Graph}
 use Rattle.pt_types.specs.declared.rows.Row.{Row}
 use Rattle.pt_blocks.specs.declared.blocks.Named.{Named}
-use Rattle.pt_graph.specs.GraphOf.{graph_of}
 use Rattle.pt_graph_text.specs.declared.fault.GraphFault.{GraphFault}
 use Rattle.pt_semantics.specs.Kept.{kept}
 use Rattle.pt_semantics.specs.Lists.{IsIn}
@@ -42,7 +41,7 @@ use Rattle.pt_run.specs.Leaving.{PutsMeaning, RunWith}
 use Rattle.pt_run.specs.Replaying.{LeavesReplay, OnAir, stop_of_replay}
 use Rattle.pt_run.specs.ReplaysAgreeing.{AreStoppedAlike, LeaveAlike, ReplayCallsAgree, ReplaysAgree, WritesTables}
 use Rattle.pt_run.specs.Runs.{IsKept, log_if}
-use Rattle.pt_words.specs.Grammar.{replay}
+use Rattle.pt_words.specs.Grammar.{GraphFile, replay}
 use Rattle.pt_run.specs.Written.{Leaves}
 use Rattle.pt_run.proofs.CallsAgreeing.{of_bytes}
 use Rattle.pt_run.proofs.Complete.{same_ok}
@@ -50,6 +49,7 @@ use Rattle.pt_run.proofs.OneStop.{stop_one, turns_of}
 use Rattle.pt_run.proofs.Replayed.{replay_headline}
 use Rattle.pt_run.proofs.RunsAgreeing.{by_histories, same_list, same_log, same_rows}
 use Rattle.pt_run.proofs.StepsAgreeing.{none_past}
+use Rattle.pt_run.specs.GraphFiles.{graph_by}
 
 -- a whole replay with these turns in its last round
 abbrev IsReplayOf : Graph → (ℕ → ℕ) → Air → (ℕ → List Row) → ReplayState → List VisitRecord → Type 0
@@ -142,10 +142,10 @@ replays_agree plan other rows air platforms others fault stop graphs h k = (
 )
 
 -- two calls that ran
-module _ (log logged : Bool) (contents : Contents) (blocks : List Named) (name air bytes : List ℕ) (o p : Option Fault) (left leaves : Leaves) (r q : SourceCall) (w v : SinkCall) (all : ReportsAll contents blocks name) (reported : contents air ≡ Some bytes)
-    (h : RunWith contents blocks name (OnAir contents air (LeavesReplay log o left w))) (k : RunWith contents blocks name (OnAir contents air (LeavesReplay logged p leaves v))) where
-  defines : (g : Graph) → IfSome (contents name) (λ bytes. graph_of blocks bytes ≡ Ok g) → graph_of blocks all.bytes ≡ Ok g
-  defines g file = of_bytes (contents name) all.bytes (λ bytes. graph_of blocks bytes ≡ Ok g) all.reported file
+module _ (log logged : Bool) (contents : Contents) (blocks : List Named) (graph_file : GraphFile) (air bytes : List ℕ) (o p : Option Fault) (left leaves : Leaves) (r q : SourceCall) (w v : SinkCall) (all : ReportsAll contents blocks graph_file) (reported : contents air ≡ Some bytes)
+    (h : RunWith contents blocks graph_file (OnAir contents air (LeavesReplay log o left w))) (k : RunWith contents blocks graph_file (OnAir contents air (LeavesReplay logged p leaves v))) where
+  defines : (g : Graph) → IfSome (contents graph_file.name) (λ bytes. graph_by blocks graph_file bytes ≡ Ok g) → graph_by blocks graph_file all.bytes ≡ Ok g
+  defines g file = of_bytes (contents graph_file.name) all.bytes (λ bytes. graph_by blocks graph_file bytes ≡ Ok g) all.reported file
 
   graphs : h.plan.graph ≡ k.plan.graph
   graphs = same_ok {E = GraphFault} h.plan.graph k.plan.graph (sym (defines h.plan.graph h.file) ∙ defines k.plan.graph k.file)
@@ -209,9 +209,9 @@ module _ (log logged : Bool) (contents : Contents) (blocks : List Named) (name a
   }
 
 pub replay_calls_agree : ReplayCallsAgree
-replay_calls_agree workers others log logged contents blocks name air bytes a b all reported ran too due more =
-    let order = replay name air workers log in
-    let asked = replay name air others logged in
-    alike log logged contents blocks name air bytes a.fault b.fault a.left b.left a.read b.read a.wrote b.wrote all reported
-    ((replay_headline (Some order) contents blocks a due workers log name air refl).run ran)
-    ((replay_headline (Some asked) contents blocks b more others logged name air refl).run too)
+replay_calls_agree workers others log logged contents blocks graph_file air bytes a b all reported ran too due more =
+    let order = replay graph_file air workers log in
+    let asked = replay graph_file air others logged in
+    alike log logged contents blocks graph_file air bytes a.fault b.fault a.left b.left a.read b.read a.wrote b.wrote all reported
+    ((replay_headline (Some order) contents blocks a due workers log graph_file air refl).run ran)
+    ((replay_headline (Some asked) contents blocks b more others logged graph_file air refl).run too)

@@ -33,22 +33,24 @@ use Rattle.pt_sensors.specs.Recorded.{AreRows, RowsOfKind}
 use Rattle.pt_run.specs.RunsAgreeing.{FinishedRunsAgree, RunsAgree, ReportsSensors}
 use Rattle.pt_run.specs.Readings.{RunClocks}
 use Rattle.pt_run.specs.Runs.{IsFinishedRun, log_if}
+use Rattle.pt_sensors.specs.declared.limits.FileLimits.{FileLimits}
+use Rattle.pt_sensors.specs.Limits.{file_limits}
 
 -- a file with known content has one list of rows
 same_ok : (rows more : List Row) → ◌≡◌ {A = Result (List Row) RowFault} (Ok rows) (Ok more) → rows ≡ more
 same_ok rows more e = cc
 
-file_rows : (reported : Option (List ℕ)) (bytes : List ℕ) (rows more : List Row) → reported ≡ Some bytes → IfSome reported (λ bytes. rows_of bytes ≡ Ok rows) → IfSome reported (λ bytes. rows_of bytes ≡ Ok more) → rows ≡ more
-file_rows None bytes rows more e h k = absurd (none_some bytes e)
-file_rows (Some b) bytes rows more e h k = same_ok rows more (sym h ∙ k)
+file_rows : (limits : FileLimits) (reported : Option (List ℕ)) (bytes : List ℕ) (rows more : List Row) → reported ≡ Some bytes → IfSome reported (λ bytes. rows_of limits bytes ≡ Ok rows) → IfSome reported (λ bytes. rows_of limits bytes ≡ Ok more) → rows ≡ more
+file_rows limits None bytes rows more e h k = absurd (none_some bytes e)
+file_rows limits (Some b) bytes rows more e h k = same_ok rows more (sym h ∙ k)
 
-kind_rows : (contents : Contents) (kind : Kind) (rows more : List Row) → ((file : List ℕ) (bound : ℕ) → kind ≡ Sensor file bound → (bytes : List ℕ) × (contents file ≡ Some bytes)) → RowsOfKind contents kind rows → RowsOfKind contents kind more → rows ≡ more
-kind_rows contents (Sensor file bound) rows more reported h k = let f = reported file bound refl in file_rows (contents file) f.0 rows more f.1 h k
-kind_rows contents kind rows more reported h k = h ∙ sym k
+kind_rows : (limits : FileLimits) (contents : Contents) (kind : Kind) (rows more : List Row) → ((file : List ℕ) (bound : ℕ) → kind ≡ Sensor file bound → (bytes : List ℕ) × (contents file ≡ Some bytes)) → RowsOfKind limits contents kind rows → RowsOfKind limits contents kind more → rows ≡ more
+kind_rows limits contents (Sensor file bound) rows more reported h k = let f = reported file bound refl in file_rows limits (contents file) f.0 rows more f.1 h k
+kind_rows limits contents kind rows more reported h k = h ∙ sym k
 
 -- sensors whose files have known contents have one list of rows each
 pub rows_are_one : (contents : Contents) (g : Graph) (rows more : ℕ → List Row) → ReportsSensors contents g → AreRows contents g rows → AreRows contents g more → rows ≡ more
-rows_are_one contents g rows more reported h k = fun_ext (λ a. kind_rows contents (kind_of g a) (rows a) (more a) (reported a) (h a) (k a))
+rows_are_one contents g rows more reported h k = fun_ext (λ a. kind_rows (file_limits g.claims) contents (kind_of g a) (rows a) (more a) (reported a) (h a) (k a))
 
 -- the rows of the other run
 pub same_rows : (contents : Contents) (g other : Graph) (rows more : ℕ → List Row) → g ≡ other → ReportsSensors contents g → AreRows contents g rows → AreRows contents other more → of_run other more ≡ of_run g rows

@@ -14,7 +14,6 @@ use Rattle.pt_types.specs.Groups.{input_group}
 use Rattle.pt_types.specs.Lawful.{IsLawful}
 use Rattle.pt_types.specs.Lookups.{kind_of}
 use Rattle.pt_graph_text.specs.declared.fault.GraphFault.{GraphFault}
-use Rattle.pt_graph.specs.GraphOf.{graph_of}
 use Rattle.pt_history.specs.declared.miss.Miss.{Miss}
 use Rattle.pt_semantics.specs.Kept.{kept}
 use Rattle.pt_semantics.specs.Lists.{Each, IsIn}
@@ -47,6 +46,7 @@ use Rattle.pt_make.proofs.Timely.{each_kept}
 use Rattle.pt_run.specs.SlackRuns.{SlackRoundsMissNothing, SlackRunsMissNothing}
 use Rattle.pt_run.proofs.Complete.{agrees, same_ok}
 use Rattle.pt_run.proofs.Made.{none_of, place_of}
+use Rattle.pt_run.specs.GraphFiles.{graph_by}
 
 -- a paced reading is past the tag's time by no more than the slack that the offset asks for
 at_most : (z : ℤ) (n : ℕ) → z ≤ℤ pos n → at_least_zero z ≤ n
@@ -144,6 +144,6 @@ pub slack_rounds_miss_nothing : SlackRoundsMissNothing
 slack_rounds_miss_nothing g slack plan rows platforms fault least is run = none_missed g slack least plan rows platforms fault is run
 
 pub slack_runs_miss_nothing : SlackRunsMissNothing
-slack_runs_miss_nothing g slack workers log contents blocks name bytes text left least reported defines (h, file, run) =
-    let same : h ≡ with_slacks g slack = sym (same_ok {E = GraphFault} (with_slacks g slack) h (agrees (graph_of blocks) (contents name) bytes (Ok (with_slacks g slack)) (Ok h) reported (subst (λ z. IfSome z (λ bytes. graph_of blocks bytes ≡ Ok (with_slacks g slack))) (sym reported) defines) file)) in
+slack_runs_miss_nothing g slack workers log contents blocks graph_file bytes text left least reported defines (h, file, run) =
+    let same : h ≡ with_slacks g slack = sym (same_ok {E = GraphFault} (with_slacks g slack) h (agrees (graph_by blocks graph_file) (contents graph_file.name) bytes (Ok (with_slacks g slack)) (Ok h) reported (subst (λ z. IfSome z (λ bytes. graph_by blocks graph_file bytes ≡ Ok (with_slacks g slack))) (sym reported) defines) file)) in
     run.finished.missed ∙ slack_rounds_miss_nothing g slack run.plan (of_run run.plan.graph run.finished.run.rows) left.platforms None least (run.graph ∙ same) (run.finished.run.fact.paced refl)

@@ -5,7 +5,6 @@ use Rattle.pt_types.specs.declared.graph.Graph.{Graph}
 use Rattle.pt_types.specs.declared.rows.Row.{Row}
 use Rattle.pt_blocks.specs.declared.blocks.Named.{Named}
 use Rattle.pt_graph_text.specs.declared.fault.GraphFault.{GraphFault}
-use Rattle.pt_graph.specs.GraphOf.{graph_of}
 use Rattle.pt_semantics.specs.Cycles.{NoFreeCycle}
 use Rattle.pt_semantics.specs.Offsets.{IsFeasible}
 use Rattle.pt_causality.specs.Ranked.{IsFreeCycle}
@@ -29,10 +28,11 @@ use Rattle.pt_run.specs.Auditing.{LastFails, lawful_line}
 use Rattle.pt_run.specs.Due.{AfterAdmission, AfterAir, AfterCycles, AfterFile, AfterOffsets, AfterRows, Answer, HasRunBy, IsAudited, IsDueFor, IsDueTo, IsJudgedBy, IsMeantBy, IsReplayed, IsReplayedBy, IsSlackedBy, OnlyPuts, PutsText, RefusedWith, RefusesAsDue, UnlessMemory, WithPlan}
 use Rattle.pt_run.specs.Replaying.{has_replayed}
 use Rattle.pt_run.specs.Reporting.{AreOfGraph}
-use Rattle.pt_words.specs.Grammar.{over, audit, replay}
+use Rattle.pt_words.specs.Grammar.{GraphFile, over, audit, replay}
 use Rattle.pt_run.specs.Written.{FitOnAll, HasNothing, IsChecked, IsTables, Leaves, has_run}
 use Rattle.pt_run.proofs.Ending.{past_file, reported_due}
 use Rattle.pt_run.proofs.Reported.{of_none}
+use Rattle.pt_run.specs.GraphFiles.{graph_by}
 
 pub not_true : false ≡ true → ⊥
 not_true e = cc
@@ -47,11 +47,11 @@ module _ (contents : Contents) (a : Answer) (Goal : Option Fault → Type 0) whe
   by_puts Text (inl h) all part = subst Goal (sym h.0) (all h.1 h.2 h.3)
   by_puts Text (inr h) all part = subst Goal (sym h.0) (part h.1 h.2 h.3 h.4)
 
-  pub by_file : (blocks : List Named) (name : List ℕ) (Then : Graph → Type 0) → AfterFile contents blocks name a Then → (RefusedWith (fault.Read None) a → ReadFails [] name a.read → Goal (Some (fault.Read None)))
-      → ((f : GraphFault) → RefusedWith (fault.Graph f) a → IfSome (contents name) (λ bytes. graph_of blocks bytes ≡ Err f) → Goal (Some (fault.Graph f))) → ((g : Graph) → IfSome (contents name) (λ bytes. graph_of blocks bytes ≡ Ok g) → Then g → Goal a.fault) → Goal a.fault
-  by_file blocks name Then (inl h) unread fails on = with_fault (fault.Read None) h.0 (unread h.0 h.1)
-  by_file blocks name Then (inr (inl h)) unread fails on = with_fault (fault.Graph h.0) h.1 (fails h.0 h.1 h.2)
-  by_file blocks name Then (inr (inr h)) unread fails on = on h.0 h.1 h.2
+  pub by_file : (blocks : List Named) (graph_file : GraphFile) (Then : Graph → Type 0) → AfterFile contents blocks graph_file a Then → (RefusedWith (fault.Read None) a → ReadFails [] graph_file.name a.read → Goal (Some (fault.Read None)))
+      → ((f : GraphFault) → RefusedWith (fault.Graph f) a → IfSome (contents graph_file.name) (λ bytes. graph_by blocks graph_file bytes ≡ Err f) → Goal (Some (fault.Graph f))) → ((g : Graph) → IfSome (contents graph_file.name) (λ bytes. graph_by blocks graph_file bytes ≡ Ok g) → Then g → Goal a.fault) → Goal a.fault
+  by_file blocks graph_file Then (inl h) unread fails on = with_fault (fault.Read None) h.0 (unread h.0 h.1)
+  by_file blocks graph_file Then (inr (inl h)) unread fails on = with_fault (fault.Graph h.0) h.1 (fails h.0 h.1 h.2)
+  by_file blocks graph_file Then (inr (inr h)) unread fails on = on h.0 h.1 h.2
 
   pub by_cycles : (g : Graph) (Then : Type 0) → AfterCycles g a Then → ((actors : List ℕ) → RefusedWith (fault.Cycle actors) a → IsFreeCycle g actors → Goal (Some (fault.Cycle actors))) → (NoFreeCycle g → Then → Goal a.fault) → Goal a.fault
   by_cycles g Then (inl h) cyclic on = with_fault (fault.Cycle h.0) h.1 (cyclic h.0 h.1 h.2)
@@ -139,24 +139,24 @@ module _ (o : Option Fault) (left : Leaves) (r q : SourceCall) (w : SinkCall) wh
   on_memory Then Other on (inr h) = inr (on h)
 
 -- the graph file was asked for before, and it defines this graph
-module _ (contents : Contents) (blocks : List Named) (name : List ℕ) (g : Graph) (read : IfSome (contents name) (λ bytes. graph_of blocks bytes ≡ Ok g)) (o : Option Fault) (left : Leaves) (first asked now : Option (List (List ℕ))) (start before last : ℕ) (w : SinkCall) (asks : Asks first asked (name ∷ [])) (grew : start ≤ before) where
+module _ (contents : Contents) (blocks : List Named) (graph_file : GraphFile) (g : Graph) (read : IfSome (contents graph_file.name) (λ bytes. graph_by blocks graph_file bytes ≡ Ok g)) (o : Option Fault) (left : Leaves) (first asked now : Option (List (List ℕ))) (start before last : ℕ) (w : SinkCall) (asks : Asks first asked (graph_file.name ∷ [])) (grew : start ≤ before) where
   abbrev inner : SourceCall
   inner = record { asked_before = asked; asked_now = now; before = before; now = last }
 
   abbrev outer : SourceCall
   outer = record { asked_before = first; asked_now = now; before = start; now = last }
 
-  unread : (late : LateRows) (actor : ℕ) → SensorUnread late contents g actor [] inner → SensorUnread late contents g actor (name ∷ []) outer
+  unread : (late : LateRows) (actor : ℕ) → SensorUnread late contents g actor [] inner → SensorUnread late contents g actor (graph_file.name ∷ []) outer
   unread late actor u = record {
     earlier = u.earlier;
     file = u.file;
     bound = u.bound;
     sensor = u.sensor;
-    failed = read_after (name ∷ []) (files_before g actor) u.file first asked now start before last asks grew u.failed;
+    failed = read_after (graph_file.name ∷ []) (files_before g actor) u.file first asked now start before last asks grew u.failed;
   }
 
-  last_fails : (file : List ℕ) → LastFails g [] file inner → LastFails g (name ∷ []) file outer
-  last_fails file failed = read_after (name ∷ []) (all_sensors g) file first asked now start before last asks grew failed
+  last_fails : (file : List ℕ) → LastFails g [] file inner → LastFails g (graph_file.name ∷ []) file outer
+  last_fails file failed = read_after (graph_file.name ∷ []) (all_sensors g) file first asked now start before last asks grew failed
 
   -- the answer, if it is by what was read of the graph's files, and if by what was read in all
   abbrev there : Answer
@@ -165,23 +165,23 @@ module _ (contents : Contents) (blocks : List Named) (name : List ℕ) (g : Grap
   abbrev here : Answer
   here = record { fault = o; left = left; read = outer; wrote = w }
 
-  pub command_on_file : (c : Command) → UnlessMemory there (IsDueFor c contents g []) → UnlessMemory here (IsDueTo (over c name) contents blocks)
-  command_on_file c h = on_memory o left inner outer w (IsDueFor c contents g []) (IsDueTo (over c name) contents blocks) (λ k. inr (inr (g, read, on_command o left inner outer w contents g [] (name ∷ []) unread c k))) h
+  pub command_on_file : (c : Command) → UnlessMemory there (IsDueFor c contents g []) → UnlessMemory here (IsDueTo (over c graph_file) contents blocks)
+  command_on_file c h = on_memory o left inner outer w (IsDueFor c contents g []) (IsDueTo (over c graph_file) contents blocks) (λ k. inr (inr (g, read, on_command o left inner outer w contents g [] (graph_file.name ∷ []) unread c k))) h
 
-  pub audit_on_file : (log : List ℕ) → UnlessMemory there (IsAudited log contents g []) → UnlessMemory here (IsDueTo (audit name log) contents blocks)
+  pub audit_on_file : (log : List ℕ) → UnlessMemory there (IsAudited log contents g []) → UnlessMemory here (IsDueTo (audit graph_file log) contents blocks)
   audit_on_file log h =
-      on_memory o left inner outer w (IsAudited log contents g []) (IsDueTo (audit name log) contents blocks)
-      (λ k. inr (inr (g, read, on_admission o left inner outer w contents g [] (name ∷ []) unread (IsJudgedBy log contents g [] there) (IsJudgedBy log contents g (name ∷ []) here) (on_judged o left inner outer w log contents g [] (name ∷ []) (last_fails log)) k))) h
+      on_memory o left inner outer w (IsAudited log contents g []) (IsDueTo (audit graph_file log) contents blocks)
+      (λ k. inr (inr (g, read, on_admission o left inner outer w contents g [] (graph_file.name ∷ []) unread (IsJudgedBy log contents g [] there) (IsJudgedBy log contents g (graph_file.name ∷ []) here) (on_judged o left inner outer w log contents g [] (graph_file.name ∷ []) (last_fails log)) k))) h
 
-  pub replay_on_file : (air : List ℕ) (workers : ℕ) (log : Bool) → UnlessMemory there (IsReplayed air log contents g []) → UnlessMemory here (IsDueTo (replay name air workers log) contents blocks)
+  pub replay_on_file : (air : List ℕ) (workers : ℕ) (log : Bool) → UnlessMemory there (IsReplayed air log contents g []) → UnlessMemory here (IsDueTo (replay graph_file air workers log) contents blocks)
   replay_on_file air workers log h =
-      on_memory o left inner outer w (IsReplayed air log contents g []) (IsDueTo (replay name air workers log) contents blocks)
-      (λ k. inr (inr (g, read, on_admission o left inner outer w contents g [] (name ∷ []) unread (IsReplayedBy air log contents g [] there) (IsReplayedBy air log contents g (name ∷ []) here) (on_replayed o left inner outer w air log contents g [] (name ∷ []) (last_fails air)) k))) h
+      on_memory o left inner outer w (IsReplayed air log contents g []) (IsDueTo (replay graph_file air workers log) contents blocks)
+      (λ k. inr (inr (g, read, on_admission o left inner outer w contents g [] (graph_file.name ∷ []) unread (IsReplayedBy air log contents g [] there) (IsReplayedBy air log contents g (graph_file.name ∷ []) here) (on_replayed o left inner outer w air log contents g [] (graph_file.name ∷ []) (last_fails air)) k))) h
 
 -- the graph file gave no graph
-pub graph_reported : (contents : Contents) (blocks : List Named) (name : List ℕ) (a : Answer) (Then : Graph → Type 0) → HasNothing a.left → a.wrote.written_now ≡ a.wrote.written_before → (f reported : Fault) → a.fault ≡ Some reported → (reported ≡ f) ⊎ (reported ≡ fault.Memory) →
-    RefusesAsDue f a.read (λ a. AfterFile contents blocks name a (λ g. ⊥)) → UnlessMemory a (λ z. AfterFile contents blocks name z Then)
-graph_reported contents blocks name a Then nothing still f reported is report refuses = past_file contents blocks name a.read a Then (reported_due a f reported (λ a. AfterFile contents blocks name a (λ g. ⊥)) nothing still is report refuses)
+pub graph_reported : (contents : Contents) (blocks : List Named) (graph_file : GraphFile) (a : Answer) (Then : Graph → Type 0) → HasNothing a.left → a.wrote.written_now ≡ a.wrote.written_before → (f reported : Fault) → a.fault ≡ Some reported → (reported ≡ f) ⊎ (reported ≡ fault.Memory) →
+    RefusesAsDue f a.read (λ a. AfterFile contents blocks graph_file a (λ g. ⊥)) → UnlessMemory a (λ z. AfterFile contents blocks graph_file z Then)
+graph_reported contents blocks graph_file a Then nothing still f reported is report refuses = past_file contents blocks graph_file a.read a Then (reported_due a f reported (λ a. AfterFile contents blocks graph_file a (λ g. ⊥)) nothing still is report refuses)
 
 -- what is due after the admission is so if it follows from what was found
 pub on_admitted : (contents : Contents) (g : Graph) (Found Then : Answer → Parts → (ℕ → List Row) → Type 0) (a : Answer) → ((plan : Parts) (rows : ℕ → List Row) → Found a plan rows → Then a plan rows) →

@@ -6,8 +6,8 @@ use Rattle.pt_run.specs.WritesTables.{WritesTables}
 use Rattle.pt_run.specs.Written.{has_run}
 
 pub writes_tables : WritesTables
-writes_tables contents blocks workers clock name outcome left w headline none =
-    let run = (headline workers clock false name refl).run (ap has_run none) in
+writes_tables contents blocks workers clock graph_file outcome left w headline none =
+    let run = (headline workers clock false graph_file refl).run (ap has_run none) in
     let put = run.leaves.written none in (
       run.graph,
       run.rows,

@@ -9,7 +9,7 @@ use Rattle.pt_run.specs.declared.fault.Fault.{Fault}
 use Rattle.pt_run.specs.declared.fault.Fault.TheVariants as fault
 use Rattle.pt_words.specs.declared.orders.Command.{Command}
 use Rattle.pt_words.specs.declared.orders.Command.TheVariants.{Check, Slacks}
-use Rattle.pt_words.specs.Grammar.{Order, over, make, migrate, audit, replay}
+use Rattle.pt_words.specs.Grammar.{GraphFile, Order, over, make, migrate, audit, replay}
 use Rattle.pt_run.specs.Written.{GraphWith}
 
 -- `all` begins with the names in `part`
@@ -35,15 +35,15 @@ abbrev pub AsksOver : Option Fault → List (List ℕ) → List Actor → List (
 AsksOver outcome first actors last before now = (files : List (List ℕ)) × AreAsked outcome actors last files × Asks before now (first ++ files)
 
 -- the graph file gave no graph, and was asked for alone; if memory ran out, perhaps not even that
-abbrev pub AsksAlone : Option Fault → List ℕ → Option (List (List ℕ)) → Option (List (List ℕ)) → Type 0
-AsksAlone (Some (fault.Graph f)) name before now = Asks before now (name ∷ [])
-AsksAlone (Some (fault.Read None)) name before now = Asks before now (name ∷ [])
-AsksAlone (Some fault.Memory) name before now = AsksOrNot before now (name ∷ [])
-AsksAlone outcome name before now = ⊥
+abbrev pub AsksAlone : Option Fault → GraphFile → Option (List (List ℕ)) → Option (List (List ℕ)) → Type 0
+AsksAlone (Some (fault.Graph f)) graph_file before now = Asks before now (graph_file.name ∷ [])
+AsksAlone (Some (fault.Read None)) graph_file before now = Asks before now (graph_file.name ∷ [])
+AsksAlone (Some fault.Memory) graph_file before now = AsksOrNot before now (graph_file.name ∷ [])
+AsksAlone outcome graph_file before now = ⊥
 
--- of a call on the graph file `name`: it gave no graph; or it defines one, and the files of these actors of it and `last` come after it
-abbrev pub AsksFrom : Option Fault → Contents → List Named → List ℕ → (Graph → List Actor) → List (List ℕ) → Option (List (List ℕ)) → Option (List (List ℕ)) → Type 0
-AsksFrom outcome contents blocks name actors last before now = AsksAlone outcome name before now ⊎ GraphWith contents blocks name (λ g. AsksOver outcome (name ∷ []) (actors g) last before now)
+-- of a call on a graph file: it gave no graph; or it defines one, and the files of these actors of it and `last` come after it
+abbrev pub AsksFrom : Option Fault → Contents → List Named → GraphFile → (Graph → List Actor) → List (List ℕ) → Option (List (List ℕ)) → Option (List (List ℕ)) → Type 0
+AsksFrom outcome contents blocks graph_file actors last before now = AsksAlone outcome graph_file before now ⊎ GraphWith contents blocks graph_file (λ g. AsksOver outcome (graph_file.name ∷ []) (actors g) last before now)
 
 -- the files of all sensors of a graph, in its order
 abbrev pub all_sensors : Graph → List (List ℕ)
@@ -58,8 +58,8 @@ actors_for _ g = g.actors
 -- of each order: no file for a made input, the graph file alone for `migrate`, and one more at the end of an audit or a replay
 abbrev pub AsksOf : Option Fault → Option Order → Contents → List Named → SourceCall → Type 0
 AsksOf outcome None contents blocks r = Asks r.asked_before r.asked_now []
-AsksOf outcome (Some (over command name)) contents blocks r = AsksFrom outcome contents blocks name (actors_for command) [] r.asked_before r.asked_now
+AsksOf outcome (Some (over command graph_file)) contents blocks r = AsksFrom outcome contents blocks graph_file (actors_for command) [] r.asked_before r.asked_now
 AsksOf outcome (Some (make number workers)) contents blocks r = Asks r.asked_before r.asked_now []
-AsksOf outcome (Some (migrate name)) contents blocks r = AsksFrom outcome contents blocks name (λ g. []) [] r.asked_before r.asked_now
-AsksOf outcome (Some (audit name log)) contents blocks r = AsksFrom outcome contents blocks name (λ g. g.actors) (log ∷ []) r.asked_before r.asked_now
-AsksOf outcome (Some (replay name air workers log)) contents blocks r = AsksFrom outcome contents blocks name (λ g. g.actors) (air ∷ []) r.asked_before r.asked_now
+AsksOf outcome (Some (migrate graph_file)) contents blocks r = AsksFrom outcome contents blocks graph_file (λ g. []) [] r.asked_before r.asked_now
+AsksOf outcome (Some (audit graph_file log)) contents blocks r = AsksFrom outcome contents blocks graph_file (λ g. g.actors) (log ∷ []) r.asked_before r.asked_now
+AsksOf outcome (Some (replay graph_file air workers log)) contents blocks r = AsksFrom outcome contents blocks graph_file (λ g. g.actors) (air ∷ []) r.asked_before r.asked_now

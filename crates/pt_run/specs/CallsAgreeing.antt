@@ -11,7 +11,7 @@ use Rattle.pt_run.specs.Agreeing.{ReportsAll}
 use Rattle.pt_run.specs.Due.{Answer, IsDue}
 use Rattle.pt_run.specs.RunsAgreeing.{AreFewReadings}
 use Rattle.pt_run.specs.Statuses.{status_of}
-use Rattle.pt_words.specs.Grammar.{over}
+use Rattle.pt_words.specs.Grammar.{GraphFile, over}
 use Rattle.pt_run.specs.declared.fault.Fault.{Fault}
 use Rattle.pt_run.specs.declared.fault.Fault.TheVariants as fault
 use Rattle.pt_words.specs.declared.orders.Command.TheVariants.{Run}
@@ -43,6 +43,6 @@ pub record EndAlike (a b : Answer) : Type 0 where
 
 -- two undisturbed calls of `run` by such a clock over the same files end alike, whatever the number of workers
 abbrev pub CallsAgree : Type 0
-CallsAgree = (workers others : ℕ) (clock : ClockChoice) (log : Bool) (contents : Contents) (blocks : List Named) (name : List ℕ) (a b : Answer) → ReportsAll contents blocks name →
+CallsAgree = (workers others : ℕ) (clock : ClockChoice) (log : Bool) (contents : Contents) (blocks : List Named) (graph_file : GraphFile) (a b : Answer) → ReportsAll contents blocks graph_file →
     IsUndisturbed a.fault → IsUndisturbed b.fault → IsFixed clock a.left.platforms → IsFixed clock b.left.platforms →
-    IsDue (Some (over (Run workers clock log) name)) contents blocks a → IsDue (Some (over (Run others clock log) name)) contents blocks b → EndAlike a b
+    IsDue (Some (over (Run workers clock log) graph_file)) contents blocks a → IsDue (Some (over (Run others clock log) graph_file)) contents blocks b → EndAlike a b

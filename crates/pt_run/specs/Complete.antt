@@ -5,7 +5,6 @@ use Rattle.pt_tags.specs.declared.tag.Tag.{Tag}
 use Rattle.pt_types.specs.declared.graph.Graph.{Graph}
 use Rattle.pt_types.specs.declared.rows.Row.{Row}
 use Rattle.pt_blocks.specs.declared.blocks.Named.{Named}
-use Rattle.pt_graph.specs.GraphOf.{graph_of}
 use Rattle.pt_semantics.specs.Counts.{unit_firings}
 use Rattle.pt_semantics.specs.Cycles.{NoFreeCycle}
 use Rattle.pt_semantics.specs.Meaning.{ActorFiring}
@@ -25,14 +24,15 @@ use Rattle.pt_run.specs.declared.fault.Fault.{Fault}
 use Rattle.pt_run.specs.declared.fault.Fault.TheVariants.{LateMessage, Long, Memory}
 use Rattle.pt_words.specs.declared.orders.Command.TheVariants.{Run}
 use Rattle.pt_run.specs.Written.{Leaves, Means}
-use Rattle.pt_words.specs.Grammar.{Order, over}
+use Rattle.pt_words.specs.Grammar.{GraphFile, Order, over}
+use Rattle.pt_run.specs.GraphFiles.{graph_by}
 
 -- the files are known and a run can begin: the graph file defines this graph, which is admitted, and each sensor's file has
 -- rows, none of which is late
-pub record CanBegin (contents : Contents) (blocks : List Named) (name : List ℕ) (g : Graph) : Type 0 where
+pub record CanBegin (contents : Contents) (blocks : List Named) (graph_file : GraphFile) (g : Graph) : Type 0 where
   pub bytes : List ℕ
-  pub reported : contents name ≡ Some bytes
-  pub graph : graph_of blocks bytes ≡ Ok g
+  pub reported : contents graph_file.name ≡ Some bytes
+  pub graph : graph_by blocks graph_file bytes ≡ Ok g
   pub no_free_cycle : NoFreeCycle g
   pub feasible : IsFeasible g
   pub files : ReportsSensors contents g
@@ -41,8 +41,8 @@ pub record CanBegin (contents : Contents) (blocks : List Named) (name : List ℕ
   pub in_time : AllPass Refused g rows
 
 -- and their program can run: these firings are the meaning
-pub record CanRun (contents : Contents) (blocks : List Named) (name : List ℕ) (g : Graph) (firings : List ActorFiring) : Type 0 where
-  pub begins : CanBegin contents blocks name g
+pub record CanRun (contents : Contents) (blocks : List Named) (graph_file : GraphFile) (g : Graph) (firings : List ActorFiring) : Type 0 where
+  pub begins : CanBegin contents blocks graph_file g
   pub means : Means g begins.rows firings
 
 -- on no platform does the meaning have more firings of units than the platform may claim
@@ -64,8 +64,8 @@ StatusIsMeant status g firings =
 
 -- for a paced run of such a program, if neither the source's nor the sink's count of faults rose
 abbrev pub IsComplete : ℕ → Option Order → Contents → List Named → SourceCall → SinkCall → Type 0
-IsComplete status order contents blocks r w = (workers : ℕ) (log : Bool) (name : List ℕ) (g : Graph) (firings : List ActorFiring) →
-    order ≡ Some (over (Run workers Paced log) name) → CanRun contents blocks name g firings → (Rose r.before r.now → ⊥) → (Rose w.before w.now → ⊥) → StatusIsMeant status g firings
+IsComplete status order contents blocks r w = (workers : ℕ) (log : Bool) (graph_file : GraphFile) (g : Graph) (firings : List ActorFiring) →
+    order ≡ Some (over (Run workers Paced log) graph_file) → CanRun contents blocks graph_file g firings → (Rose r.before r.now → ⊥) → (Rose w.before w.now → ⊥) → StatusIsMeant status g firings
 
 -- a fact holds of this platform of those that are left, which is one of this graph
 abbrev pub OnPlatform : Leaves → Graph → ℕ → (PlatformView → Type 0) → Type 0
@@ -82,5 +82,5 @@ EndsAsShown (Some f) left g = ⊥
 
 -- so ends a run that can begin, by whatever clock, if neither count rose
 abbrev pub IsCompleteByAnyClock : Option Fault → Leaves → Option Order → Contents → List Named → SourceCall → SinkCall → Type 0
-IsCompleteByAnyClock outcome left order contents blocks r w = (workers : ℕ) (clock : ClockChoice) (log : Bool) (name : List ℕ) (g : Graph) →
-    order ≡ Some (over (Run workers clock log) name) → CanBegin contents blocks name g → (Rose r.before r.now → ⊥) → (Rose w.before w.now → ⊥) → EndsAsShown outcome left g
+IsCompleteByAnyClock outcome left order contents blocks r w = (workers : ℕ) (clock : ClockChoice) (log : Bool) (graph_file : GraphFile) (g : Graph) →
+    order ≡ Some (over (Run workers clock log) graph_file) → CanBegin contents blocks graph_file g → (Rose r.before r.now → ⊥) → (Rose w.before w.now → ⊥) → EndsAsShown outcome left g

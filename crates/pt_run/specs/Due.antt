@@ -9,7 +9,6 @@ use Rattle.pt_types.specs.declared.graph.Graph.{Graph}
 use Rattle.pt_types.specs.declared.rows.Row.{Row}
 use Rattle.pt_blocks.specs.declared.blocks.Named.{Named}
 use Rattle.pt_graph_text.specs.declared.fault.GraphFault.{GraphFault}
-use Rattle.pt_graph.specs.GraphOf.{graph_of}
 use Rattle.pt_semantics.specs.Cycles.{NoFreeCycle}
 use Rattle.pt_semantics.specs.Offsets.{IsFeasible}
 use Rattle.pt_causality.specs.Ranked.{IsFreeCycle, level_of}
@@ -43,8 +42,9 @@ use Rattle.pt_run.specs.Making.{IsMadeRun}
 use Rattle.pt_run.specs.Migrating.{IsMigrated}
 use Rattle.pt_run.specs.Replaying.{LeavesReplay, OnAir, has_replayed}
 use Rattle.pt_run.specs.Texts.{left_by}
-use Rattle.pt_words.specs.Grammar.{Order, over, make, migrate, audit, replay}
+use Rattle.pt_words.specs.Grammar.{GraphFile, Order, over, make, migrate, audit, replay}
 use Rattle.pt_run.specs.Written.{FitOnAll, GraphWith, HasNothing, IsChecked, IsTables, Leaves, run_clocks, has_run, leaves_nothing, stop_of}
+use Rattle.pt_run.specs.GraphFiles.{graph_by}
 
 -- the answer of a call: its fault, what it leaves, and the source and the sink before it and after it
 pub record Answer : Type 0 where
@@ -107,11 +107,11 @@ AnswersAsDue text made r Due = (a : Answer) → a.read ≡ r → Answers text ma
 -- The stages.
 
 -- the graph file: it could not be read; or its text has a fault; or it defines a graph, and the call goes on with it
-abbrev pub AfterFile : Contents → List Named → List ℕ → Answer → (Graph → Type 0) → Type 0
-AfterFile contents blocks name a Then =
-    (RefusedWith (fault.Read None) a × ReadFails [] name a.read)
-    ⊎ (((f : GraphFault) × RefusedWith (fault.Graph f) a × IfSome (contents name) (λ bytes. graph_of blocks bytes ≡ Err f))
-    ⊎ GraphWith contents blocks name Then)
+abbrev pub AfterFile : Contents → List Named → GraphFile → Answer → (Graph → Type 0) → Type 0
+AfterFile contents blocks graph_file a Then =
+    (RefusedWith (fault.Read None) a × ReadFails [] graph_file.name a.read)
+    ⊎ (((f : GraphFault) × RefusedWith (fault.Graph f) a × IfSome (contents graph_file.name) (λ bytes. graph_by blocks graph_file bytes ≡ Err f))
+    ⊎ GraphWith contents blocks graph_file Then)
 
 -- cycles: these actors are a cycle that takes no time; or there is none
 abbrev pub AfterCycles : Graph → Answer → Type 0 → Type 0
@@ -201,11 +201,11 @@ IsReplayed air log contents g others a = AfterAdmission contents g others a (IsR
 
 -- the stages of each order: `make` reads no file, and `migrate` writes any graph that its file defines
 abbrev pub IsDueTo : Order → Contents → List Named → Answer → Type 0
-IsDueTo (over command name) contents blocks a = AfterFile contents blocks name a (λ g. IsDueFor command contents g (name ∷ []) a)
+IsDueTo (over command graph_file) contents blocks a = AfterFile contents blocks graph_file a (λ g. IsDueFor command contents g (graph_file.name ∷ []) a)
 IsDueTo (make number workers) contents blocks a = (a.left.misses ≡ []) × PutsText a (IsMadeRun number a.left.platforms)
-IsDueTo (migrate name) contents blocks a = AfterFile contents blocks name a (λ g. OnlyPuts a (IsMigrated g blocks))
-IsDueTo (audit name log) contents blocks a = AfterFile contents blocks name a (λ g. IsAudited log contents g (name ∷ []) a)
-IsDueTo (replay name air workers log) contents blocks a = AfterFile contents blocks name a (λ g. IsReplayed air log contents g (name ∷ []) a)
+IsDueTo (migrate graph_file) contents blocks a = AfterFile contents blocks graph_file a (λ g. OnlyPuts a (IsMigrated g blocks))
+IsDueTo (audit graph_file log) contents blocks a = AfterFile contents blocks graph_file a (λ g. IsAudited log contents g (graph_file.name ∷ []) a)
+IsDueTo (replay graph_file air workers log) contents blocks a = AfterFile contents blocks graph_file a (λ g. IsReplayed air log contents g (graph_file.name ∷ []) a)
 
 -- how a call ends: memory ran out; or the words are not a valid command line; or as is due
 abbrev pub IsDue : Option Order → Contents → List Named → Answer → Type 0

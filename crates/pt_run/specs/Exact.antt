@@ -25,24 +25,24 @@ IsKnown contents name = (bytes : List ℕ) × (contents name ≡ Some bytes)
 
 -- that of the graph file is known
 abbrev pub GraphKnown : Order → Contents → Type 0
-GraphKnown (over command name) contents = IsKnown contents name
+GraphKnown (over command graph_file) contents = IsKnown contents graph_file.name
 GraphKnown (make number workers) contents = ⊥
-GraphKnown (migrate name) contents = IsKnown contents name
-GraphKnown (audit name log) contents = IsKnown contents name
-GraphKnown (replay name air workers log) contents = IsKnown contents name
+GraphKnown (migrate graph_file) contents = IsKnown contents graph_file.name
+GraphKnown (audit graph_file log) contents = IsKnown contents graph_file.name
+GraphKnown (replay graph_file air workers log) contents = IsKnown contents graph_file.name
 
 -- and those of its sensors' files
 abbrev pub RowsKnown : Order → Contents → List Named → Type 0
-RowsKnown (over command name) contents blocks = ReportsAll contents blocks name
+RowsKnown (over command graph_file) contents blocks = ReportsAll contents blocks graph_file
 RowsKnown (make number workers) contents blocks = ⊥
-RowsKnown (migrate name) contents blocks = ⊥
-RowsKnown (audit name log) contents blocks = ReportsAll contents blocks name
-RowsKnown (replay name air workers log) contents blocks = ReportsAll contents blocks name
+RowsKnown (migrate graph_file) contents blocks = ⊥
+RowsKnown (audit graph_file log) contents blocks = ReportsAll contents blocks graph_file
+RowsKnown (replay graph_file air workers log) contents blocks = ReportsAll contents blocks graph_file
 
 -- and that of the log or of the recording
 abbrev pub LastKnown : Order → Contents → List Named → Type 0
-LastKnown (audit name log) contents blocks = ReportsAll contents blocks name × IsKnown contents log
-LastKnown (replay name air workers log) contents blocks = ReportsAll contents blocks name × IsKnown contents air
+LastKnown (audit graph_file log) contents blocks = ReportsAll contents blocks graph_file × IsKnown contents log
+LastKnown (replay graph_file air workers log) contents blocks = ReportsAll contents blocks graph_file × IsKnown contents air
 LastKnown _ contents blocks = ⊥
 
 -- the files on which this answer depends are known; no files decide any other answer
@@ -56,11 +56,11 @@ IsDecided (Some (fault.LateRow actor row seen limit)) order contents blocks = Ro
 IsDecided (Some (fault.Long None)) order contents blocks = RowsKnown order contents blocks
 IsDecided (Some (fault.Unlawful v)) order contents blocks = LastKnown order contents blocks
 IsDecided (Some (fault.Air f)) order contents blocks = LastKnown order contents blocks
-IsDecided None (over Check name) contents blocks = IsKnown contents name
-IsDecided None (over Meaning name) contents blocks = ReportsAll contents blocks name
-IsDecided None (over Slacks name) contents blocks = IsKnown contents name × AreBlocks blocks
-IsDecided None (migrate name) contents blocks = IsKnown contents name
-IsDecided None (audit name log) contents blocks = LastKnown (audit name log) contents blocks
+IsDecided None (over Check graph_file) contents blocks = IsKnown contents graph_file.name
+IsDecided None (over Meaning graph_file) contents blocks = ReportsAll contents blocks graph_file
+IsDecided None (over Slacks graph_file) contents blocks = IsKnown contents graph_file.name × AreBlocks blocks
+IsDecided None (migrate graph_file) contents blocks = IsKnown contents graph_file.name
+IsDecided None (audit graph_file log) contents blocks = LastKnown (audit graph_file log) contents blocks
 IsDecided _ order contents blocks = ⊥
 
 -- the answer that is due, or another one of its kind: another cycle or ring, or a failed write of a text that is due

@@ -33,13 +33,13 @@ use Rattle.pt_run.specs.declared.fault.Fault.{Fault}
 use Rattle.pt_run.specs.declared.fault.Fault.TheVariants as fault
 use Rattle.pt_words.specs.declared.orders.Command.TheVariants.{Run}
 use Rattle.pt_io.specs.Calls.{SinkCall}
-use Rattle.pt_words.specs.Grammar.{Order, over}
+use Rattle.pt_words.specs.Grammar.{GraphFile, Order, over}
 use Rattle.pt_run.specs.Written.{has_run, stop_of}
 
--- what the files of a call say: which graph the graph file with a name defines; which rows the sensors of a graph have up to its
+-- what the files of a call say: which graph a graph file defines; which rows the sensors of a graph have up to its
 -- horizon, by the number of the actor, none of which is late; and which row is the first late one, by its sensor, its number, when it is seen and by when it should be
 pub record Inputs : Type 1 where
-  pub graph : List ℕ → Graph → Type 0
+  pub graph : GraphFile → Graph → Type 0
   pub rows : Graph → (ℕ → List Row) → Type 0
   pub late_row : Graph → ℕ → ℕ → ℕ → ℕ → Type 0
 
@@ -102,27 +102,27 @@ pub record LeavesTurns (log : Bool) (outcome : Option Fault) (platforms : List A
 abbrev pub ByReadings : Type 1
 ByReadings = Graph → (ℕ → ℕ) → (ℕ → List Row) → Option (ℕ × TurnFault) → Type 0
 
--- a run over the graph file with this name: the graph that it defines, the ranks and levels of its actors, and its rows; what the run
+-- a run over this graph file: the graph that it defines, the ranks and levels of its actors, and its rows; what the run
 -- leaves and writes; and by which readings it went
-pub record HasRunOn (inputs : Inputs) (By : ByReadings) (name : List ℕ) (log : Bool) (outcome : Option Fault) (platforms : List AtEnd) (misses : List Miss) (w : SinkCall) : Type 0 where
+pub record HasRunOn (inputs : Inputs) (By : ByReadings) (graph_file : GraphFile) (log : Bool) (outcome : Option Fault) (platforms : List AtEnd) (misses : List Miss) (w : SinkCall) : Type 0 where
   pub graph : Graph
   pub rank : ℕ → ℕ
   pub level : ℕ → ℕ
   pub rows : ℕ → List Row
-  pub file : inputs.graph name graph
+  pub file : inputs.graph graph_file graph
   pub sensors : inputs.rows graph rows
   pub leaves : LeavesTurns log outcome platforms misses w graph rank level rows
   pub readings : By graph level rows (stop_of outcome)
 
 -- what holds of a run: of what it leaves, if it has platforms; else it leaves nothing and nothing is written. A paced run never ends
 -- with a late message. If the fault is a late row, the row that is named is the first late one
-pub record Headline (inputs : Inputs) (By : ByReadings) (name : List ℕ) (clock : ClockChoice) (log : Bool) (outcome : Option Fault) (platforms : List AtEnd) (misses : List Miss) (w : SinkCall) : Type 0 where
-  pub run : has_run outcome ≡ true → HasRunOn inputs By name log outcome platforms misses w
+pub record Headline (inputs : Inputs) (By : ByReadings) (graph_file : GraphFile) (clock : ClockChoice) (log : Bool) (outcome : Option Fault) (platforms : List AtEnd) (misses : List Miss) (w : SinkCall) : Type 0 where
+  pub run : has_run outcome ≡ true → HasRunOn inputs By graph_file log outcome platforms misses w
   pub nothing_else : has_run outcome ≡ false → (platforms ≡ []) × (misses ≡ []) × (w.written_now ≡ w.written_before)
   pub late_message : (platform actor : ℕ) (tag : Tag) (reading limit : ℕ) → outcome ≡ Some (fault.LateMessage platform actor tag reading limit) → clock ≢ Paced
-  pub late_row : (actor row seen limit : ℕ) → outcome ≡ Some (fault.LateRow actor row seen limit) → (g : Graph) × inputs.graph name g × inputs.late_row g actor row seen limit
+  pub late_row : (actor row seen limit : ℕ) → outcome ≡ Some (fault.LateRow actor row seen limit) → (g : Graph) × inputs.graph graph_file g × inputs.late_row g actor row seen limit
 
 -- it holds of each run that the order asks for, by the number of its workers and its clock
 abbrev pub IsHeadline : Inputs → (ℕ → ClockChoice → ByReadings) → Option Order → Option Fault → List AtEnd → List Miss → SinkCall → Type 0
 IsHeadline inputs By order outcome platforms misses w =
-    (workers : ℕ) (clock : ClockChoice) (log : Bool) (name : List ℕ) → order ≡ Some (over (Run workers clock log) name) → Headline inputs (By workers clock) name clock log outcome platforms misses w
+    (workers : ℕ) (clock : ClockChoice) (log : Bool) (graph_file : GraphFile) → order ≡ Some (over (Run workers clock log) graph_file) → Headline inputs (By workers clock) graph_file clock log outcome platforms misses w

@@ -28,7 +28,7 @@ use Rattle.pt_run.specs.Due.{Answer, IsDue}
 use Rattle.pt_run.specs.Readings.{EachOf}
 use Rattle.pt_run.specs.Replaying.{LeavesReplay, OnAir, stop_of_replay}
 use Rattle.pt_run.specs.Runs.{log_if}
-use Rattle.pt_words.specs.Grammar.{Order, over, replay}
+use Rattle.pt_words.specs.Grammar.{GraphFile, Order, over, replay}
 use Rattle.pt_run.specs.Written.{Leaves}
 
 -- the histories of these platforms keep the paced schedule and do what the meaning does, until they are finished or this platform
@@ -54,8 +54,8 @@ ReplaysInBoundsDoAsPaced = (contents : Contents) (air : List ℕ) (log : Bool) (
 
 -- the files are known and a replay within the bounds can run: these firings are the meaning, and no row of the recording breaks a
 -- stated bound
-pub record CanReplay (contents : Contents) (blocks : List Named) (name air : List ℕ) (g : Graph) (firings : List ActorFiring) : Type 0 where
-  pub runs : CanRun contents blocks name g firings
+pub record CanReplay (contents : Contents) (blocks : List Named) (graph_file : GraphFile) (air : List ℕ) (g : Graph) (firings : List ActorFiring) : Type 0 where
+  pub runs : CanRun contents blocks graph_file g firings
   pub bytes : List ℕ
   pub reported : contents air ≡ Some bytes
   pub recorded : Air
@@ -64,8 +64,8 @@ pub record CanReplay (contents : Contents) (blocks : List Named) (name air : Lis
 
 -- such a replay ends as the meaning says, as a paced run does, if neither the source's nor the sink's count of faults rose
 abbrev pub IsCompleteInBounds : ℕ → Option Order → Contents → List Named → SourceCall → SinkCall → Type 0
-IsCompleteInBounds status order contents blocks r w = (workers : ℕ) (log : Bool) (name air : List ℕ) (g : Graph) (firings : List ActorFiring) →
-    order ≡ Some (replay name air workers log) → CanReplay contents blocks name air g firings → (Rose r.before r.now → ⊥) → (Rose w.before w.now → ⊥) → StatusIsMeant status g firings
+IsCompleteInBounds status order contents blocks r w = (workers : ℕ) (log : Bool) (graph_file : GraphFile) (air : List ℕ) (g : Graph) (firings : List ActorFiring) →
+    order ≡ Some (replay graph_file air workers log) → CanReplay contents blocks graph_file air g firings → (Rose r.before r.now → ⊥) → (Rose w.before w.now → ⊥) → StatusIsMeant status g firings
 
 -- a replay and a run of this graph each write the tables of these firings, with the log if it is asked for, and miss the same
 pub record WriteAlike (g : Graph) (firings : List ActorFiring) (log logged : Bool) (a b : Answer) : Type 0 where
@@ -75,5 +75,5 @@ pub record WriteAlike (g : Graph) (firings : List ActorFiring) (log logged : Boo
 
 -- so do a replay within the bounds and a paced run over the same files, if both end without a fault
 abbrev pub ReplaysInBoundsAgreeWithRuns : Type 0
-ReplaysInBoundsAgreeWithRuns = (contents : Contents) (blocks : List Named) (name air : List ℕ) (g : Graph) (firings : List ActorFiring) (workers others : ℕ) (log logged : Bool) (a b : Answer) → CanReplay contents blocks name air g firings → a.fault ≡ None → b.fault ≡ None →
-    IsDue (Some (replay name air workers log)) contents blocks a → IsDue (Some (over (Run others Paced logged) name)) contents blocks b → WriteAlike g firings log logged a b
+ReplaysInBoundsAgreeWithRuns = (contents : Contents) (blocks : List Named) (graph_file : GraphFile) (air : List ℕ) (g : Graph) (firings : List ActorFiring) (workers others : ℕ) (log logged : Bool) (a b : Answer) → CanReplay contents blocks graph_file air g firings → a.fault ≡ None → b.fault ≡ None →
+    IsDue (Some (replay graph_file air workers log)) contents blocks a → IsDue (Some (over (Run others Paced logged) graph_file)) contents blocks b → WriteAlike g firings log logged a b

@@ -1,7 +1,8 @@
 -- What an audit or a replay reads after the graph file: the rows of all sensors, and then one last file.
 use Rattle.std.specs.Prelude.{◌≡◌, ◌+◌, ℕ, List, [], IfSome, take}
 use Rattle.pt_types.specs.declared.graph.Graph.{Graph}
-use Rattle.pt_types.specs.Limits.{most_log_bytes}
+use Rattle.pt_audit.specs.Limits.{log_limit}
+use Rattle.pt_sensors.specs.Limits.{file_limits}
 use Rattle.pt_semantics.specs.Rows.{FitRows}
 use Rattle.pt_offsets.specs.Plans.{IsAdmitted, Parts}
 use Rattle.pt_sensors.specs.declared.recorded_fault.LateRows.TheVariants.{Refused}
@@ -17,10 +18,10 @@ use Rattle.pt_run.specs.declared.last_file.LastFile.TheVariants.{Log, Air}
 use Rattle.pt_run.specs.Auditing.{LastFails}
 use Rattle.pt_run.specs.Due.{AfterAdmission, Answer, RefusedWith}
 
--- the most bytes that the last file may have
-abbrev pub most_of : LastFile → ℕ
-most_of Log = most_log_bytes
-most_of Air = 8388608
+-- the most bytes that the last file may have, by the most claims of a platform
+abbrev pub most_of : LastFile → ℕ → ℕ
+most_of Log claims = log_limit claims
+most_of Air claims = (file_limits claims).bytes
 
 -- the fault if it can't be read
 abbrev pub unread_of : LastFile → Fault
@@ -36,8 +37,8 @@ pub record HasAllRows (contents : Contents) (plan : Parts) (entries : List Senso
   pub fit : FitRows plan.graph (of_run plan.graph (rows_for entries))
 
 -- these bytes begin the content of the file with this name, if that is known: they are all of it, or one more than the file may have
-abbrev pub HasFetched : LastFile → Contents → List ℕ → List ℕ → Type 0
-HasFetched last contents name bytes = IfSome (contents name) (λ content. bytes ≡ take (most_of last + 1) content)
+abbrev pub HasFetched : LastFile → ℕ → Contents → List ℕ → List ℕ → Type 0
+HasFetched last claims contents name bytes = IfSome (contents name) (λ content. bytes ≡ take (most_of last claims + 1) content)
 
 -- a call over this graph is refused up to the last file: by its admission, or since the last file can't be read
 abbrev pub IsUnread : LastFile → List ℕ → Contents → Graph → Answer → Type 0

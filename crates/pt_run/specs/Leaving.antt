@@ -4,7 +4,6 @@ use Rattle.pt_io.specs.Causes.{Appends, AppendsPart}
 use Rattle.pt_types.specs.declared.rows.Row.{Row}
 use Rattle.pt_types.specs.declared.firing.ActorFiring.{ActorFiring}
 use Rattle.pt_blocks.specs.declared.blocks.Named.{Named}
-use Rattle.pt_graph.specs.GraphOf.{graph_of}
 use Rattle.pt_semantics.specs.Meaning.{IsMeaning}
 use Rattle.pt_semantics.specs.Rows.{FitRows}
 use Rattle.pt_semantics.specs.Tables.{tables_text}
@@ -18,12 +17,14 @@ use Rattle.pt_run.specs.Runs.{AreHeldIf, IsKept, RunOver, log_if}
 use Rattle.pt_run.specs.declared.fault.Fault.{Fault}
 use Rattle.pt_run.specs.declared.fault.Fault.TheVariants as fault
 use Rattle.pt_run.specs.Written.{Leaves, stop_of}
+use Rattle.pt_run.specs.GraphFiles.{graph_by}
+use Rattle.pt_words.specs.Grammar.{GraphFile}
 
 -- the graph file defines an admitted graph, its sensors' files have rows, none of which is late, and a fact holds of the plan
 -- of the graph and of the rows up to its horizon
-pub record RunWith (contents : Contents) (blocks : List Named) (name : List ℕ) (Fact : Parts → (ℕ → List Row) → Type 0) : Type 0 where
+pub record RunWith (contents : Contents) (blocks : List Named) (graph_file : GraphFile) (Fact : Parts → (ℕ → List Row) → Type 0) : Type 0 where
   pub plan : Parts
-  pub file : IfSome (contents name) (λ bytes. graph_of blocks bytes ≡ Ok plan.graph)
+  pub file : IfSome (contents graph_file.name) (λ bytes. graph_by blocks graph_file bytes ≡ Ok plan.graph)
   pub over : RunOver contents plan (Fact plan)
 
 -- what was put is the tables of the meaning and, if asked for, the log of the platforms, the numbers in whose turns 64 bits hold

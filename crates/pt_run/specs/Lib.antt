@@ -19,6 +19,7 @@ pub mod Leaving
 pub mod Headline
 pub mod OverFiles
 pub mod WritesTables
+pub mod UsualHeadline
 pub mod Exact
 pub mod RunsAgreeing
 pub mod CallsAgreeing
@@ -29,3 +30,5 @@ pub mod Workers
 pub mod Clocks
 pub mod Due
 pub mod LastFiles
+pub mod GraphFiles
+pub mod Counts

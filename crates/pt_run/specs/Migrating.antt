@@ -3,8 +3,8 @@ use Rattle.std.specs.Prelude.{◌≡◌, ◌≤◌, ◌++◌, ℕ, List, [], ◌
 use Rattle.pt_types.specs.declared.graph.Graph.{Graph}
 use Rattle.pt_types.specs.Limits.{most_graph_bytes}
 use Rattle.pt_blocks.specs.declared.blocks.Named.{Named}
-use Rattle.pt_graph.specs.GraphOf.{graph_of}
 use Rattle.pt_graph_writer.specs.Text.{graph_text}
+use Rattle.pt_graph.specs.GraphOf.{graph_of}
 
 -- some file defines the graph
 abbrev pub IsDefined : List Named → Graph → Type 0

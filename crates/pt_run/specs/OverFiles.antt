@@ -3,7 +3,6 @@ use Rattle.std.specs.Prelude.{◌≡◌, ℕ, List, Option, Ok, IfSome, map}
 use Rattle.pt_types.specs.declared.graph.Graph.{Graph}
 use Rattle.pt_types.specs.declared.rows.Row.{Row}
 use Rattle.pt_blocks.specs.declared.blocks.Named.{Named}
-use Rattle.pt_graph.specs.GraphOf.{graph_of}
 use Rattle.pt_causality.specs.Ranked.{level_of}
 use Rattle.pt_offsets.specs.Plans.{Parts}
 use Rattle.pt_turn.specs.declared.fault.TurnFault.{TurnFault}
@@ -17,11 +16,12 @@ use Rattle.pt_run.specs.Headline.{AtEnd, Inputs, IsHeadline}
 use Rattle.pt_run.specs.Readings.{RunClocks, ReadBy}
 use Rattle.pt_words.specs.Grammar.{Order}
 use Rattle.pt_run.specs.Written.{Leaves, run_clocks}
+use Rattle.pt_run.specs.GraphFiles.{graph_by}
 
 -- the graph that the bytes of a file define, and the rows that the sensors' files have; where a source doesn't report a file's bytes, any
 abbrev pub inputs_of : Contents → List Named → Inputs
 inputs_of contents blocks = record {
-  graph = λ name g. IfSome (contents name) (λ bytes. graph_of blocks bytes ≡ Ok g);
+  graph = λ graph_file g. IfSome (contents graph_file.name) (λ bytes. graph_by blocks graph_file bytes ≡ Ok g);
   rows = λ g rows. (all : ℕ → List Row) × AreRows contents g all × AllPass Refused g all × (rows ≡ of_run g all);
   late_row = SensorLate contents;
 }

@@ -24,7 +24,7 @@ use Rattle.pt_replay.specs.Outcome.{IsOutcome as IsReplayOutcome}
 use Rattle.pt_run.specs.declared.fault.Fault.{Fault}
 use Rattle.pt_run.specs.declared.fault.Fault.TheVariants as fault
 use Rattle.pt_run.specs.Leaving.{PutsMeaning, RunWith}
-use Rattle.pt_words.specs.Grammar.{Order, replay}
+use Rattle.pt_words.specs.Grammar.{GraphFile, Order, replay}
 use Rattle.pt_run.specs.Written.{HasNothing, Leaves}
 
 -- the file `air`, if its content is known, says these lags and transits of the plan's graph, and a fact holds of the plan, of the
@@ -70,12 +70,12 @@ pub record LeavesReplay (log : Bool) (outcome : Option Fault) (left : Leaves) (w
   pub breach : NamesBreach outcome recorded
 
 -- what holds of each replay that the words ask for: of what it leaves, if it ran; else it leaves nothing and nothing is written
-pub record ReplayHeadline (outcome : Option Fault) (left : Leaves) (log : Bool) (contents : Contents) (blocks : List Named) (name air : List ℕ) (w : SinkCall) : Type 0 where
-  pub run : has_replayed outcome ≡ true → RunWith contents blocks name (OnAir contents air (LeavesReplay log outcome left w))
+pub record ReplayHeadline (outcome : Option Fault) (left : Leaves) (log : Bool) (contents : Contents) (blocks : List Named) (graph_file : GraphFile) (air : List ℕ) (w : SinkCall) : Type 0 where
+  pub run : has_replayed outcome ≡ true → RunWith contents blocks graph_file (OnAir contents air (LeavesReplay log outcome left w))
   pub nothing_else : has_replayed outcome ≡ false → HasNothing left × (w.written_now ≡ w.written_before)
 
 abbrev pub IsReplayHeadline : Option Fault → Leaves → Option Order → Contents → List Named → SinkCall → Type 0
-IsReplayHeadline outcome left order contents blocks w = (workers : ℕ) (log : Bool) (name air : List ℕ) → order ≡ Some (replay name air workers log) → ReplayHeadline outcome left log contents blocks name air w
+IsReplayHeadline outcome left order contents blocks w = (workers : ℕ) (log : Bool) (graph_file : GraphFile) (air : List ℕ) → order ≡ Some (replay graph_file air workers log) → ReplayHeadline outcome left log contents blocks graph_file air w
 
 -- A replay of a plan: what is read for it, and how it finishes.
 

@@ -19,7 +19,7 @@ use Rattle.pt_run.specs.Agreeing.{ReportsAll}
 use Rattle.pt_run.specs.Due.{Answer, IsDue}
 use Rattle.pt_run.specs.Replaying.{has_replayed, stop_of_replay}
 use Rattle.pt_run.specs.Runs.{log_if}
-use Rattle.pt_words.specs.Grammar.{replay}
+use Rattle.pt_words.specs.Grammar.{GraphFile, replay}
 
 -- no platform stopped two replays, or the same one did: with the same fault, if both faults are a late message or neither is
 abbrev pub AreStoppedAlike : Option (ℕ × TurnFault) → Option (ℕ × TurnFault) → Type 0
@@ -47,6 +47,6 @@ pub record LeaveAlike (log logged : Bool) (a b : Answer) : Type 0 where
 
 -- so do two calls of `replay` that ran over the same known files, whatever their numbers of workers and whether they write the log
 abbrev pub ReplayCallsAgree : Type 0
-ReplayCallsAgree = (workers others : ℕ) (log logged : Bool) (contents : Contents) (blocks : List Named) (name air bytes : List ℕ) (a b : Answer) → ReportsAll contents blocks name → contents air ≡ Some bytes →
+ReplayCallsAgree = (workers others : ℕ) (log logged : Bool) (contents : Contents) (blocks : List Named) (graph_file : GraphFile) (air bytes : List ℕ) (a b : Answer) → ReportsAll contents blocks graph_file → contents air ≡ Some bytes →
     has_replayed a.fault ≡ true → has_replayed b.fault ≡ true →
-    IsDue (Some (replay name air workers log)) contents blocks a → IsDue (Some (replay name air others logged)) contents blocks b → LeaveAlike log logged a b
+    IsDue (Some (replay graph_file air workers log)) contents blocks a → IsDue (Some (replay graph_file air others logged)) contents blocks b → LeaveAlike log logged a b

@@ -12,6 +12,7 @@ use Rattle.pt_run.specs.declared.fault.Fault.TheVariants as fault
 use Rattle.pt_words.specs.declared.orders.ClockChoice.TheVariants.{Paced}
 use Rattle.pt_words.specs.declared.orders.Command.{Command}
 use Rattle.pt_words.specs.declared.orders.Command.TheVariants.{Run}
+use Rattle.pt_words.specs.Grammar.{GraphFile}
 use Rattle.pt_run.specs.Written.{GraphWith}
 use Rattle.pt_run.specs.Notes.{note_line}
 
@@ -40,7 +41,7 @@ paced_run = Run 1 Paced false
 
 -- the notes of a call for some words that left these platforms: names in them are those of the graph in the file that the words
 -- name, of which the platforms are
-abbrev pub ReportsBy : Option Fault → List Miss → List PlatformView → Option (Command × List ℕ) → Contents → List Named → SinkCall → Type 0
+abbrev pub ReportsBy : Option Fault → List Miss → List PlatformView → Option (Command × GraphFile) → Contents → List Named → SinkCall → Type 0
 ReportsBy (Some fault.Memory) misses platforms order contents blocks w = Unit {0}
 ReportsBy (Some fault.Usage) misses platforms order contents blocks w = Reports (Some fault.Usage) misses None w
 ReportsBy (Some (fault.Graph f)) misses platforms order contents blocks w = Reports (Some (fault.Graph f)) misses None w

@@ -22,7 +22,6 @@ use Rattle.pt_tables.specs.Held.{IsHeldTurn}
 use Rattle.pt_tables.specs.Log.{log_head, log_text}
 use Rattle.pt_tables.specs.Misses.{miss_line}
 use Rattle.pt_tables.specs.Platforms.{histories, platform_lines}
-use Rattle.pt_tables.specs.declared.log_page.LogPage.{LogPage}
 use Rattle.pt_confluence.specs.Gathered.{HaveFinished}
 use Rattle.pt_rounds.specs.Outcome.{IsOutcome as IsPacedOutcome}
 use Rattle.pt_sensors.specs.declared.recorded_fault.LateRows.TheVariants.{Refused}
@@ -113,14 +112,13 @@ pub record IsFinishedRun (contents : Contents) (c : RunClocks) (plan : Parts) (l
   -- in a paced run the misses are exactly the firings of actuators whose paced reading is past their tag's time plus slack
   pub missed_as_meant : c.choice ≡ Paced → (m : Miss) → IsIn m misses ↔ IsMissedByMeaning plan.graph firings m.actor m.tag m.reading m.limit
 
--- the log of platforms, if there is a page for it
-abbrev pub paged_log : Option LogPage → List PlatformView → List ℕ
-paged_log None platforms = []
-paged_log (Some page) platforms = log_head ++ flat_map platform_lines platforms
+-- the log of platforms by the graphs of their plans, if it is asked for
+abbrev pub asked_log : Bool → List PlatformView → List ℕ
+asked_log log platforms = if log then log_head ++ flat_map platform_lines platforms else []
 
--- the text that a run puts: its tables and, if there is a page for it, the log
+-- the text that a run puts: its tables and, if it is asked for, the log
 abbrev pub outputs_text : Outputs → List ℕ
-outputs_text ran = string_bytes ran.tables ++ paged_log ran.log ran.platforms.items
+outputs_text ran = string_bytes ran.tables ++ asked_log ran.log ran.platforms.items
 
 -- the text of finished platforms
 abbrev pub IsText : Parts → Bool → List PlatformView → List ℕ → Type 0

@@ -3,7 +3,6 @@ use Rattle.std.specs.Prelude.{◌≡◌, [], ℕ, Bool, List, Ok, Option, Some, 
 use Rattle.pt_types.specs.declared.graph.Graph.{Graph}
 use Rattle.pt_types.specs.declared.rows.Row.{Row}
 use Rattle.pt_blocks.specs.declared.blocks.Named.{Named}
-use Rattle.pt_graph.specs.GraphOf.{graph_of}
 use Rattle.pt_causality.specs.Ranked.{level_of}
 use Rattle.pt_offsets.specs.Plans.{Parts}
 use Rattle.pt_turn.specs.declared.fault.TurnFault.{TurnFault}
@@ -14,6 +13,8 @@ use Rattle.pt_slacks.specs.Slacks.{AreLeastSlacks, with_slacks}
 use Rattle.pt_io.specs.Calls.{Contents}
 use Rattle.pt_words.specs.declared.orders.ClockChoice.TheVariants.{Paced}
 use Rattle.pt_run.specs.Written.{GraphWith, IsRun, Leaves}
+use Rattle.pt_run.specs.GraphFiles.{graph_by}
+use Rattle.pt_words.specs.Grammar.{GraphFile}
 
 -- a paced run of a graph with its least slacks misses nothing, whatever its rows, whether it finishes or a platform made all the
 -- claims that it may make
@@ -23,5 +24,5 @@ SlackRoundsMissNothing = (g : Graph) (slack : ℕ → ℕ) (plan : Parts) (rows 
 
 -- so a paced `run` that writes all, over a file that defines the graph with these slacks, ends without misses
 abbrev pub SlackRunsMissNothing : Type 0
-SlackRunsMissNothing = (g : Graph) (slack : ℕ → ℕ) (workers : ℕ) (log : Bool) (contents : Contents) (blocks : List Named) (name bytes text : List ℕ) (left : Leaves) → AreLeastSlacks g slack → contents name ≡ Some bytes → graph_of blocks bytes ≡ Ok (with_slacks g slack) →
-    GraphWith contents blocks name (λ h. IsRun contents h workers Paced log left text) → left.misses ≡ []
+SlackRunsMissNothing = (g : Graph) (slack : ℕ → ℕ) (workers : ℕ) (log : Bool) (contents : Contents) (blocks : List Named) (graph_file : GraphFile) (bytes text : List ℕ) (left : Leaves) → AreLeastSlacks g slack → contents graph_file.name ≡ Some bytes → graph_by blocks graph_file bytes ≡ Ok (with_slacks g slack) →
+    GraphWith contents blocks graph_file (λ h. IsRun contents h workers Paced log left text) → left.misses ≡ []

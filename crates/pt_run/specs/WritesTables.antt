@@ -11,7 +11,7 @@ use Rattle.pt_semantics.specs.Tables.{tables_text}
 use Rattle.pt_blocks.specs.declared.blocks.Named.{Named}
 use Rattle.pt_words.specs.declared.orders.ClockChoice.{ClockChoice}
 use Rattle.pt_words.specs.declared.orders.Command.TheVariants.{Run}
-use Rattle.pt_words.specs.Grammar.{over}
+use Rattle.pt_words.specs.Grammar.{GraphFile, over}
 use Rattle.pt_run.specs.declared.fault.Fault.{Fault}
 use Rattle.pt_run.specs.OverFiles.{HasHeadline, inputs_of}
 use Rattle.pt_run.specs.Written.{Leaves}
@@ -28,6 +28,6 @@ pub record PutsTablesOf (g : Graph) (rows : ℕ → List Row) (w : SinkCall) : T
 -- the rows that its sensors' files have
 abbrev pub WritesTables : Type 0
 WritesTables =
-    (contents : Contents) (blocks : List Named) (workers : ℕ) (clock : ClockChoice) (name : List ℕ) (outcome : Option Fault) (left : Leaves) (w : SinkCall)
-    → HasHeadline outcome left (Some (over (Run workers clock false) name)) contents blocks w → outcome ≡ None
-    → (g : Graph) × (rows : ℕ → List Row) × (inputs_of contents blocks).graph name g × (inputs_of contents blocks).rows g rows × PutsTablesOf g rows w
+    (contents : Contents) (blocks : List Named) (workers : ℕ) (clock : ClockChoice) (graph_file : GraphFile) (outcome : Option Fault) (left : Leaves) (w : SinkCall)
+    → HasHeadline outcome left (Some (over (Run workers clock false) graph_file)) contents blocks w → outcome ≡ None
+    → (g : Graph) × (rows : ℕ → List Row) × (inputs_of contents blocks).graph graph_file g × (inputs_of contents blocks).rows g rows × PutsTablesOf g rows w

@@ -3,7 +3,6 @@ use Rattle.std.specs.Prelude.{◌≡◌, ◌≤◌, ◌*◌, [], ℕ, ℤ, Bool,
 use Rattle.pt_types.specs.declared.graph.Graph.{Graph}
 use Rattle.pt_types.specs.declared.rows.Row.{Row}
 use Rattle.pt_blocks.specs.declared.blocks.Named.{Named}
-use Rattle.pt_graph.specs.GraphOf.{graph_of}
 use Rattle.pt_semantics.specs.Ranks.{AreRanks}
 use Rattle.pt_semantics.specs.Meaning.{ActorFiring, IsMeaning, IsLonger}
 use Rattle.pt_semantics.specs.Tables.{tables_text}
@@ -23,10 +22,12 @@ use Rattle.pt_run.specs.Readings.{RunClocks}
 use Rattle.pt_run.specs.Runs.{IsFinishedRun}
 use Rattle.pt_run.specs.declared.fault.Fault.{Fault}
 use Rattle.pt_run.specs.declared.fault.Fault.TheVariants as fault
+use Rattle.pt_words.specs.Grammar.{GraphFile}
+use Rattle.pt_run.specs.GraphFiles.{graph_by}
 
--- the graph file with this name, if its content is known, defines a graph, and a fact holds of that graph
-abbrev pub GraphWith : Contents → List Named → List ℕ → (Graph → Type 0) → Type 0
-GraphWith contents blocks name Fact = (g : Graph) × IfSome (contents name) (λ bytes. graph_of blocks bytes ≡ Ok g) × Fact g
+-- the graph file, if its content is known, defines a graph, and a fact holds of that graph
+abbrev pub GraphWith : Contents → List Named → GraphFile → (Graph → Type 0) → Type 0
+GraphWith contents blocks graph_file Fact = (g : Graph) × IfSome (contents graph_file.name) (λ bytes. graph_by blocks graph_file bytes ≡ Ok g) × Fact g
 
 -- what a call leaves besides what it wrote: the misses and the platforms of a run and, for a run by the machine's clock, what
 -- the clocks handed in showed before it and after it

@@ -4,16 +4,18 @@ ghost use Rattle.std.specs.Prelude.{◌≡◌, ◌≤◌, ◌<◌, IfOk, IfErr, 
 ghost use Rattle.std.specs.Arc.{arc_value};
 ghost use Rattle.pt_io.specs.Calls.{reading, writing};
 ghost use Rattle.pt_types.specs.Lawful.{IsLawful};
-ghost use Rattle.pt_graph.specs.GraphOf.{graph_of};
+ghost use Rattle.pt_types.specs.Limits.{greatest_claims};
 ghost use Rattle.pt_offsets.specs.Plans.{IsAdmitted};
 ghost use Rattle.pt_sensors.specs.Asked.{Asks};
 ghost use Rattle.pt_run.specs.Asks.{AsksAlone, AsksOver};
+ghost use Rattle.pt_words.specs.Views.{file_in};
+ghost use Rattle.pt_run.specs.GraphFiles.{IsGraphOf, graph_by};
 ghost use Rattle.pt_run.specs.Due.{AfterCycles, AfterFile, AfterOffsets, EndsRefused, RefusesAsDue};
-ghost use Rattle.pt_run.specs.Migrating.{IsDefined};
 ghost use Rattle.pt_run.specs.Reporting.{Reports};
 ghost use Rattle.pt_run.specs.Runs.{HasOpened, LacksRows};
 ghost use Rattle.pt_run.specs.Statuses.{status_of};
 ghost use Rattle.pt_run.specs.Texts.{fault_in};
+ghost use Rattle.pt_run.specs.Counts.{LeavesReads};
 
 use crate::fault::{Fault, fault_of_graph, fault_of_plan, fault_of_rows};
 use crate::notes::report;
@@ -26,38 +28,46 @@ use pt_sensors::{LateRows, recorded};
 use pt_tags::Memory;
 use pt_turn::{Platform, open_all};
 use pt_types::{Graph, MOST_GRAPH_BYTES};
+use pt_words::GraphFile;
 use std::alloc::Global;
 use std::sync::Arc;
 
-/// The graph in the file with this name.
+/// The graph in this file, in which a platform may make the file's number of claims.
 pub fn graph_at<S: Source>(
     alloc: Global,
     source: &mut S,
-    name: &str,
+    graph_file: GraphFile,
     blocks: &Blocks,
 ) -> Result<Graph, Fault>
+    requires { graph_file.claims ≤ greatest_claims }
     ensures graph { IfOk result
-        (λ g. IfSome (S.contents source.old name.now)
-        (λ bytes. graph_of blocks.now.listed.items bytes ≡ Ok g)) }
-    ensures defined { IfOk result (IsDefined blocks.now.listed.items) }
+        (λ g. IfSome (S.contents source.old graph_file.entry.name.now)
+        (λ bytes. graph_by blocks.now.listed.items (file_in graph_file.entry) bytes ≡ Ok g)) }
+    ensures defined { IfOk result (IsGraphOf blocks.now.listed.items (file_in graph_file.entry)) }
     ensures lawful { IfOk result IsLawful }
     ensures refused { IfErr result (λ f. RefusesAsDue f
         (reading S.Source source.old source.new)
-        (λ a. AfterFile (S.contents source.old) blocks.now.listed.items name.now a (λ g. ⊥))) }
+        (λ a. AfterFile (S.contents source.old) blocks.now.listed.items (file_in graph_file.entry) a
+        (λ g. ⊥))) }
     ensures keeps { S.contents source.new ≡ S.contents source.old }
     ensures grows { S.faults source.old ≤ S.faults source.new }
     ensures asks { IfOk result
-        (λ g. Asks (S.asked source.old) (S.asked source.new) (name.now ∷ [])) }
+        (λ g. Asks (S.asked source.old) (S.asked source.new) (graph_file.entry.name.now ∷ [])) }
     ensures asks_alone { IfErr result
-        (λ f. AsksAlone (Some f) name.now (S.asked source.old) (S.asked source.new)) }
+        (λ f. AsksAlone (Some f) (file_in graph_file.entry) (S.asked source.old)
+        (S.asked source.new)) }
+    ensures reads { LeavesReads (fault_in result) (S.faults source.old) (S.faults source.new) }
 {
-    let bytes = match source.fetch(alloc, name, MOST_GRAPH_BYTES) {
+    let bytes = match source.fetch(alloc, graph_file.name, MOST_GRAPH_BYTES) {
         Ok(bytes) => bytes,
         Err(FetchFault::Failed) => return Err(Fault::Read { sensor: None }),
         Err(FetchFault::Memory) => return Err(Fault::Memory),
     };
     match read_graph(alloc, bytes.as_slice(), blocks) {
-        Ok(graph) => Ok(graph),
+        Ok(mut graph) => {
+            graph.claims = graph_file.claims;
+            Ok(graph)
+        }
         Err(fault) => Err(fault_of_graph(fault)),
     }
 }
@@ -108,6 +118,7 @@ pub fn opened_of<S: Source>(
         (S.asked source.old) (S.asked source.new) }
     ensures keeps { S.contents source.new ≡ S.contents source.old }
     ensures grows { S.faults source.old ≤ S.faults source.new }
+    ensures reads { LeavesReads (fault_in result) (S.faults source.old) (S.faults source.new) }
 {
     let entries = match recorded(alloc, source, plan.graph(), LateRows::Refused) {
         Ok(entries) => entries,

@@ -1,6 +1,6 @@
 //! The command `audit`.
 
-ghost use Rattle.std.specs.Prelude.{◌≡◌, ◌↔◌, [], ◌∷◌, ℕ, IfOk, List, None, Some, true};
+ghost use Rattle.std.specs.Prelude.{◌≡◌, ◌≤◌, ◌↔◌, [], ◌∷◌, ℕ, IfOk, List, None, Some, true};
 ghost use Rattle.std.specs.Arc.{arc_value};
 ghost use Rattle.pt_io.specs.Calls.{reading, writing};
 ghost use Rattle.pt_types.specs.Lawful.{IsLawful};
@@ -17,6 +17,9 @@ ghost use Rattle.pt_run.specs.Statuses.{status_of};
 ghost use Rattle.pt_run.specs.Reporting.{Reports, ReportsBy, paced_run};
 ghost use Rattle.pt_run.specs.Texts.{PutsOrReports, fault_in, left_by};
 ghost use Rattle.pt_words.specs.Grammar.{audit as to_audit};
+ghost use Rattle.pt_words.specs.Views.{file_in};
+ghost use Rattle.pt_types.specs.Limits.{greatest_claims};
+ghost use Rattle.pt_run.specs.Counts.{LeavesReads, LeavesWrites};
 
 use crate::admission::{graph_at, planned};
 use crate::fault::Fault;
@@ -33,36 +36,41 @@ use pt_sensors::SensorRows;
 use pt_tags::Memory;
 use pt_turn::Platform;
 use pt_types::Graph;
+use pt_words::GraphFile;
 use std::alloc::Global;
 use std::sync::Arc;
 
-/// Judges whether the file `log` is what a run of the graph in the file with this name writes, with the log, whatever its
+/// Judges whether the file `log` is what a run of the graph in this file writes, with the log, whatever its
 /// clock and its workers; if it is, writes the line `lawful`.
 ///
 /// No clock is read. Before the log, the graph file and the sensors' files are read and refused as in a run, late rows
 /// included.
 pub fn audit<S: Source, K: Sink, E: Sink>(
     alloc: Global,
-    name: &str,
+    graph_file: GraphFile,
     log: &str,
     source: &mut S,
     out: &mut K,
     notes: &mut E,
     blocks: &Blocks,
 ) -> Ending
+    requires { graph_file.claims ≤ greatest_claims }
     ensures status { result.status ≡ status_of result.fault result.misses }
-    ensures asks { AsksFrom result.fault (S.contents source.old) blocks.now.listed.items name.now
-        (λ g. g.actors) (log.now ∷ []) (S.asked source.old) (S.asked source.new) }
-    ensures due { IsDue (Some (to_audit name.now log.now))
+    ensures asks { AsksFrom result.fault (S.contents source.old) blocks.now.listed.items
+        (file_in graph_file.entry) (λ g. g.actors) (log.now ∷ []) (S.asked source.old)
+        (S.asked source.new) }
+    ensures due { IsDue (Some (to_audit (file_in graph_file.entry) log.now))
         (S.contents source.old) blocks.now.listed.items
         (answer_by result (reading S.Source source.old source.new)
         (writing K.Sink out.old out.new)) }
     ensures flushed { result.fault ≡ None → K.flushed out.new }
     ensures notes { ReportsBy result.fault result.misses result.platforms.items
-        (Some (paced_run, name.now)) (S.contents source.old) blocks.now.listed.items
+        (Some (paced_run, file_in graph_file.entry)) (S.contents source.old) blocks.now.listed.items
         (writing E.Sink notes.old notes.new) }
+    ensures reads { LeavesReads result.fault (S.faults source.old) (S.faults source.new) }
+    ensures writes { LeavesWrites result.fault (K.faults out.old) (K.faults out.new) }
 {
-    match graph_at(alloc, source, name, blocks) {
+    match graph_at(alloc, source, graph_file, blocks) {
         Ok(graph) => audit_graph(alloc, graph, log, source, out, notes, blocks),
         Err(fault) => {
             let fault = report(alloc, notes, fault, None);
@@ -91,6 +99,8 @@ fn audit_graph<S: Source, K: Sink, E: Sink>(
     ensures flushed { result.fault ≡ None → K.flushed out.new }
     ensures notes { Reports result.fault result.misses (Some graph)
         (writing E.Sink notes.old notes.new) }
+    ensures reads { LeavesReads result.fault (S.faults source.old) (S.faults source.new) }
+    ensures writes { LeavesWrites result.fault (K.faults out.old) (K.faults out.new) }
 {
     let plan = match planned(alloc, graph, notes) {
         Ok(plan) => plan,
@@ -113,6 +123,7 @@ fn judge<S: Source>(
         (IsAudited log.now (S.contents source.old) (arc_value plan.now).graph []) }
     ensures asks { AsksOver (fault_in result) [] (arc_value plan.now).graph.actors (log.now ∷ [])
         (S.asked source.old) (S.asked source.new) }
+    ensures reads { LeavesReads (fault_in result) (S.faults source.old) (S.faults source.new) }
 {
     let RowsAndBytes { entries, bytes } = match fetched(alloc, plan, LastFile::Log, log, source) {
         Ok(found) => found,
@@ -190,6 +201,7 @@ fn end_audit<K: Sink, E: Sink>(
     ensures flushed { result.fault ≡ None → K.flushed out.new }
     ensures notes { Reports result.fault result.misses (Some graph.now)
         (writing E.Sink notes.old notes.new) }
+    ensures writes { LeavesWrites result.fault (K.faults out.old) (K.faults out.new) }
 {
     if let Err(fault) = judged {
         let fault = report(alloc, notes, fault, Some(graph));

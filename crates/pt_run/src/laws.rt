@@ -13,12 +13,18 @@ ghost use Rattle.pt_run.specs.LawfulRuns.{
 };
 ghost use Rattle.pt_run.specs.ReplaysAgreeing.{ReplayCallsAgree, ReplaysAgree};
 ghost use Rattle.pt_run.specs.SlackRuns.{SlackRoundsMissNothing, SlackRunsMissNothing};
+ghost use Rattle.pt_run.specs.UsualHeadline.{UsualHeadline};
 ghost use Rattle.pt_run.specs.WritesTables.{WritesTables};
 
 /// A run that ended with status 0 or 5, by whatever clock and with any number of workers, has put the tables of the meaning of the graph
 /// that its file defines, over the rows that its sensors' files have: from clause `headline` of [`crate::ptides`].
 pub fn writes_tables()
     ensures { WritesTables }
+{}
+
+/// A run whose words state no number of claims: its headline is of the graph that the bytes of its file define.
+pub fn usual_headline()
+    ensures { UsualHeadline }
 {}
 
 /// What a paced run must write and what it leaves is a function of the graph file and the files of its sensors.

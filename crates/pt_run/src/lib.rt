@@ -37,7 +37,7 @@ mod top;
 pub use fault::Fault;
 pub use laws::{
     calls_agree, replays_agree, replays_in_bounds_agree_with_runs, replays_in_bounds_do_as_paced,
-    runs_agree, slack_runs_miss_nothing, writes_tables, written_logs_are_lawful,
+    runs_agree, slack_runs_miss_nothing, usual_headline, writes_tables, written_logs_are_lawful,
 };
 pub use outcome::Outcome;
 pub use plan_laws::{finished_runs_agree, plan_runs_agree, step_runs_agree};

@@ -14,6 +14,7 @@ ghost use Rattle.pt_run.specs.Making.{IsMadeRun};
 ghost use Rattle.pt_run.specs.Reporting.{Reports};
 ghost use Rattle.pt_run.specs.Texts.{left_by};
 ghost use Rattle.pt_words.specs.Grammar.{make as to_make};
+ghost use Rattle.pt_run.specs.Counts.{LeavesWrites};
 
 use crate::fault::{Fault, fault_of_plan};
 use crate::notes::{report, report_write};
@@ -59,6 +60,7 @@ pub fn make<K: Sink, E: Sink>(
     ensures flushed { result.fault ≡ None → K.flushed out.new }
     ensures notes { Reports result.fault result.misses None
         (writing E.Sink notes.old notes.new) }
+    ensures writes { LeavesWrites result.fault (K.faults out.old) (K.faults out.new) }
 {
     let Ok(MadeRun { summary, platforms }) = run_made(alloc, number, workers, blocks) else {
         let fault = report(alloc, notes, Fault::Memory, None);

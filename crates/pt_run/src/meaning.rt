@@ -12,6 +12,7 @@ ghost use Rattle.pt_words.specs.declared.orders.Command.TheVariants.{Meaning};
 ghost use Rattle.pt_run.specs.Asks.{AsksOver};
 ghost use Rattle.pt_run.specs.Due.{AfterRows, AnswersAsDue, IsDueFor, IsMeantBy};
 ghost use Rattle.pt_run.specs.Texts.{fault_in};
+ghost use Rattle.pt_run.specs.Counts.{LeavesReads};
 
 use crate::fault::{Fault, fault_of_cycle, fault_of_rows};
 use pt_causality::{Ranks, ranks_of};
@@ -34,6 +35,7 @@ pub fn meaning_answer<S: Source>(
         (IsDueFor Meaning (S.contents source.old) graph.now []) }
     ensures asks { AsksOver (fault_in result) [] graph.now.actors [] (S.asked source.old)
         (S.asked source.new) }
+    ensures reads { LeavesReads (fault_in result) (S.faults source.old) (S.faults source.new) }
 {
     match ranks_of(alloc, graph) {
         Ok(ranks) => meaning_text(alloc, source, graph, &ranks),
@@ -56,6 +58,7 @@ fn meaning_text<S: Source>(
         (λ rows. IsMeantBy graph.now rows a)) }
     ensures asks { AsksOver (fault_in result) [] graph.now.actors [] (S.asked source.old)
         (S.asked source.new) }
+    ensures reads { LeavesReads (fault_in result) (S.faults source.old) (S.faults source.new) }
 {
     let sensors = match recorded(alloc, source, graph, LateRows::Taken) {
         Ok(sensors) => sensors,

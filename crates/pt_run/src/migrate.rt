@@ -9,6 +9,9 @@ ghost use Rattle.pt_run.specs.Statuses.{status_of};
 ghost use Rattle.pt_run.specs.Reporting.{Reports};
 ghost use Rattle.pt_run.specs.Texts.{fault_in, left_by};
 ghost use Rattle.pt_words.specs.Grammar.{migrate as to_migrate};
+ghost use Rattle.pt_words.specs.Views.{file_in};
+ghost use Rattle.pt_types.specs.Limits.{usual_claims};
+ghost use Rattle.pt_run.specs.Counts.{LeavesReads, LeavesWrites};
 
 use crate::admission::graph_at;
 use crate::fault::Fault;
@@ -20,31 +23,36 @@ use pt_graph_writer::graph_text;
 use pt_io::{Sink, Source};
 use pt_tags::Memory;
 use pt_types::Graph;
+use pt_words::GraphFile;
 use std::alloc::Global;
 
-/// Writes the graph in the file with this name as a file of version 2: one line of compact JSON.
+/// Writes the graph in this file as a file of version 2: one line of compact JSON.
 ///
 /// Only the graph file is read. The graph need not be able to run: a cycle that takes no time and a sender that can't send in
 /// time are written as they are. A text of more than 1,048,576 bytes is written too, though no command reads it.
 pub fn migrate<S: Source, K: Sink, E: Sink>(
     alloc: Global,
-    name: &str,
+    graph_file: GraphFile,
     source: &mut S,
     out: &mut K,
     notes: &mut E,
     blocks: &Blocks,
 ) -> Ending
+    requires { graph_file.claims ≡ usual_claims }
     ensures status { result.status ≡ status_of result.fault result.misses }
-    ensures asks { AsksFrom result.fault (S.contents source.old) blocks.now.listed.items name.now
-        (λ g. []) [] (S.asked source.old) (S.asked source.new) }
-    ensures due { IsDue (Some (to_migrate name.now)) (S.contents source.old) blocks.now.listed.items
+    ensures asks { AsksFrom result.fault (S.contents source.old) blocks.now.listed.items
+        (file_in graph_file.entry) (λ g. []) [] (S.asked source.old) (S.asked source.new) }
+    ensures due { IsDue (Some (to_migrate (file_in graph_file.entry)))
+        (S.contents source.old) blocks.now.listed.items
         (answer_by result (reading S.Source source.old source.new)
         (writing K.Sink out.old out.new)) }
     ensures flushed { result.fault ≡ None → K.flushed out.new }
     ensures notes { Reports result.fault result.misses None
         (writing E.Sink notes.old notes.new) }
+    ensures reads { LeavesReads result.fault (S.faults source.old) (S.faults source.new) }
+    ensures writes { LeavesWrites result.fault (K.faults out.old) (K.faults out.new) }
 {
-    let text = match migrated(alloc, source, name, blocks) {
+    let text = match migrated(alloc, source, graph_file, blocks) {
         Ok(text) => text,
         Err(fault) => {
             let fault = report(alloc, notes, fault, None);
@@ -58,21 +66,24 @@ pub fn migrate<S: Source, K: Sink, E: Sink>(
     Ending::done(Vec::new(alloc), Vec::new(alloc))
 }
 
-/// The line that `migrate` writes for the graph in the file with this name.
+/// The line that `migrate` writes for the graph in this file.
 fn migrated<S: Source>(
     alloc: Global,
     source: &mut S,
-    name: &str,
+    graph_file: GraphFile,
     blocks: &Blocks,
 ) -> Result<Vec<u8>, Fault>
+    requires { graph_file.claims ≡ usual_claims }
     ensures due { AnswersAsDue (λ text. text.items) result
         (reading S.Source source.old source.new)
-        (IsDueTo (to_migrate name.now) (S.contents source.old) blocks.now.listed.items) }
+        (IsDueTo (to_migrate (file_in graph_file.entry))
+        (S.contents source.old) blocks.now.listed.items) }
     ensures asks { AsksFrom (fault_in result)
-        (S.contents source.old) blocks.now.listed.items name.now (λ g. []) [] (S.asked source.old)
-        (S.asked source.new) }
+        (S.contents source.old) blocks.now.listed.items (file_in graph_file.entry) (λ g. []) []
+        (S.asked source.old) (S.asked source.new) }
+    ensures reads { LeavesReads (fault_in result) (S.faults source.old) (S.faults source.new) }
 {
-    let graph = match graph_at(alloc, source, name, blocks) {
+    let graph = match graph_at(alloc, source, graph_file, blocks) {
         Ok(graph) => graph,
         Err(fault) => return Err(fault),
     };

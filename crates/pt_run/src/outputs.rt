@@ -1,15 +1,16 @@
 //! The outputs of a call: those of a run are made of its platforms, and put. Every text is put line by line, a log as it is made; the
 //! lines of misses are put on the notes at once.
 
-ghost use Rattle.std.specs.Prelude.{◌≡◌, ◌≢◌, ◌≤◌, ◌++◌, IfErr, IfOk, None, OnErr, OnOk, flat_map, is_some, string_bytes};
+ghost use Rattle.std.specs.Prelude.{◌≡◌, ◌≢◌, ◌≤◌, ◌++◌, IfErr, IfOk, None, OnErr, OnOk, flat_map, string_bytes};
 ghost use Rattle.std.specs.Arc.{arc_value};
 ghost use Rattle.pt_io.specs.Calls.{writing};
 ghost use Rattle.pt_io.specs.Causes.{Appends, AppendsPart, Rose};
 ghost use Rattle.pt_tables.specs.Misses.{miss_line};
 ghost use Rattle.pt_run.specs.Reporting.{Reports};
-ghost use Rattle.pt_run.specs.Runs.{AreHeldIf, AreOutputs, IsOutput, IsStop, paged_log};
+ghost use Rattle.pt_run.specs.Runs.{AreHeldIf, AreOutputs, IsOutput, IsStop, asked_log};
 ghost use Rattle.pt_run.specs.Statuses.{status_of};
 ghost use Rattle.pt_run.specs.Texts.{HasEnded, LeftAll, WroteRun};
+ghost use Rattle.pt_run.specs.Counts.{LeavesWrites};
 
 use crate::fault::{Fault, fault_of_turn};
 use crate::notes::{report, report_write};
@@ -20,7 +21,7 @@ use pt_history::Miss;
 use pt_io::{PutFault, Sink};
 use pt_monitors::missed;
 use pt_offsets::Plan;
-use pt_tables::{LogPage, miss_lines, platforms_hold, put_each_line, put_log};
+use pt_tables::{miss_lines, platforms_hold, put_each_line, put_log};
 use pt_tags::Memory;
 use pt_turn::Platform;
 use pt_types::Graph;
@@ -32,25 +33,21 @@ use std::sync::Arc;
 pub struct Outputs {
     /// The tables of the actuators.
     pub tables: String,
-    /// A page for the log, if it is asked for.
-    pub log: Option<LogPage>,
+    /// Whether the log is asked for.
+    pub log: bool,
     pub misses: Vec<Miss>,
     /// A line for each miss.
     pub lines: String,
     pub platforms: Vec<Platform>,
 }
 
-/// A page for the log of platforms, if it is asked for.
-fn page_if(alloc: Global, platforms: &[Platform], log: bool) -> Result<Option<LogPage>, Memory>
-    ensures asked { IfOk result (λ page. is_some page ≡ log) }
-    ensures held { OnOk result (AreHeldIf log platforms.now) }
+/// That 64 bits hold the numbers in all turns of some platforms, if the log is asked for.
+fn platforms_hold_if(log: bool, platforms: &[Platform])
+    ensures { AreHeldIf log platforms.now }
 {
-    if !log {
-        return Ok(None);
+    if log {
+        platforms_hold(platforms);
     }
-    platforms_hold(platforms);
-    let page = LogPage::new(alloc)?;
-    Ok(Some(page))
 }
 
 /// The lines of misses.
@@ -97,9 +94,9 @@ fn all_outputs(
     ensures { IfOk result (AreOutputs (arc_value plan.now) log platforms.items) }
 {
     let tables = tables_of(alloc, plan, platforms.as_slice())?;
-    let log = page_if(alloc, platforms.as_slice(), log)?;
     let misses = missed(alloc, platforms.as_slice())?;
     let lines = lines_of(alloc, plan, misses.as_slice())?;
+    platforms_hold_if(log, platforms.as_slice());
     Ok(Outputs {
         tables,
         log,
@@ -124,6 +121,7 @@ pub fn end_run<K: Sink, E: Sink>(
         (λ ran. string_bytes ran.lines ≡ flat_map (miss_line graph.now) ran.misses.items) →
         Reports result.fault result.misses (Some graph.now)
         (writing E.Sink notes.old notes.new) }
+    ensures writes { LeavesWrites result.fault (K.faults out.old) (K.faults out.new) }
 {
     match ran {
         Ok(outputs) => write_run(alloc, graph, outputs, out, notes),
@@ -145,6 +143,7 @@ fn write_run<K: Sink, E: Sink>(
     ensures notes { string_bytes ran.lines ≡ flat_map (miss_line graph.now) ran.misses.items →
         Reports result.fault result.misses (Some graph.now)
         (writing E.Sink notes.old notes.new) }
+    ensures writes { LeavesWrites result.fault (K.faults out.old) (K.faults out.new) }
 {
     let Outputs {
         tables,
@@ -185,6 +184,7 @@ fn report_stop<E: Sink>(
 pub fn put_text<K: Sink>(out: &mut K, text: &[u8]) -> Result<(), PutFault>
     ensures all { OnOk result (Appends (K.written out.old) (K.written out.new) text.now) }
     ensures flushed { OnOk result (K.flushed out.new) }
+    ensures uncounted { OnOk result (K.faults out.new ≡ K.faults out.old) }
     ensures part { OnErr result (AppendsPart (K.written out.old) (K.written out.new) text.now) }
     ensures failed { OnErr result (Rose (K.faults out.old) (K.faults out.new)) }
 {
@@ -192,49 +192,48 @@ pub fn put_text<K: Sink>(out: &mut K, text: &[u8]) -> Result<(), PutFault>
     out.flush()
 }
 
-/// Puts the tables of a run and then, if there is a page for it, its log, and flushes the sink.
+/// Puts the tables of a run and then, if it is asked for, its log, and flushes the sink.
 fn put_run<K: Sink>(
     out: &mut K,
     tables: &[u8],
-    log: Option<LogPage>,
+    log: bool,
     platforms: &[Platform],
 ) -> Result<(), PutFault>
     ensures all { OnOk result
         (Appends (K.written out.old) (K.written out.new)
-        (tables.now ++ paged_log log platforms.now)) }
+        (tables.now ++ asked_log log platforms.now)) }
     ensures flushed { OnOk result (K.flushed out.new) }
+    ensures uncounted { OnOk result (K.faults out.new ≡ K.faults out.old) }
     ensures part { OnErr result
         (AppendsPart (K.written out.old) (K.written out.new)
-        (tables.now ++ paged_log log platforms.now)) }
+        (tables.now ++ asked_log log platforms.now)) }
     ensures failed { OnErr result (Rose (K.faults out.old) (K.faults out.new)) }
 {
     put_each_line(out, tables)?;
-    put_paged(out, log, platforms)?;
+    put_log_if(out, log, platforms)?;
     out.flush()
 }
 
-/// Puts the log of platforms, if there is a page for it.
-fn put_paged<K: Sink>(
-    out: &mut K,
-    log: Option<LogPage>,
-    platforms: &[Platform],
-) -> Result<(), PutFault>
+/// Puts the log of platforms, if it is asked for.
+fn put_log_if<K: Sink>(out: &mut K, log: bool, platforms: &[Platform]) -> Result<(), PutFault>
     ensures all { OnOk result
-        (Appends (K.written out.old) (K.written out.new) (paged_log log platforms.now)) }
+        (Appends (K.written out.old) (K.written out.new) (asked_log log platforms.now)) }
+    ensures uncounted { OnOk result (K.faults out.new ≡ K.faults out.old) }
     ensures part { OnErr result
-        (AppendsPart (K.written out.old) (K.written out.new) (paged_log log platforms.now)) }
+        (AppendsPart (K.written out.old) (K.written out.new) (asked_log log platforms.now)) }
     ensures failed { OnErr result (Rose (K.faults out.old) (K.faults out.new)) }
     ensures grows { K.faults out.old ≤ K.faults out.new }
 {
-    match log {
-        None => Ok(()),
-        Some(page) => put_log(out, page, platforms),
+    if !log {
+        return Ok(());
     }
+    put_log(out, platforms)
 }
 
 /// Puts a text in one put, or in none if it is empty.
 fn put_whole<K: Sink>(out: &mut K, text: &[u8]) -> Result<(), PutFault>
     ensures all { OnOk result (Appends (K.written out.old) (K.written out.new) text.now) }
+    ensures uncounted { OnOk result (K.faults out.new ≡ K.faults out.old) }
     ensures part { OnErr result (AppendsPart (K.written out.old) (K.written out.new) text.now) }
     ensures failed { OnErr result (Rose (K.faults out.old) (K.faults out.new)) }
     ensures grows { K.faults out.old ≤ K.faults out.new }

@@ -1,6 +1,6 @@
 //! The command `replay`.
 
-ghost use Rattle.std.specs.Prelude.{◌≡◌, [], ◌∷◌, IfErr, IfOk, None, Some, flat_map, length, string_bytes};
+ghost use Rattle.std.specs.Prelude.{◌≡◌, ◌≤◌, [], ◌∷◌, IfErr, IfOk, None, Some, flat_map, length, string_bytes};
 ghost use Rattle.std.specs.Arc.{arc_value};
 ghost use Rattle.pt_io.specs.Calls.{reading, writing};
 ghost use Rattle.pt_types.specs.Lawful.{IsLawful};
@@ -18,6 +18,9 @@ ghost use Rattle.pt_run.specs.Reporting.{Reports, ReportsBy, paced_run};
 ghost use Rattle.pt_run.specs.Statuses.{status_of};
 ghost use Rattle.pt_run.specs.Texts.{fault_in, left_by, stop_in};
 ghost use Rattle.pt_words.specs.Grammar.{replay as to_replay};
+ghost use Rattle.pt_words.specs.Views.{file_in};
+ghost use Rattle.pt_types.specs.Limits.{greatest_claims};
+ghost use Rattle.pt_run.specs.Counts.{LeavesReads, LeavesWrites};
 
 use crate::admission::{graph_at, planned};
 use crate::fault::{Fault, fault_of_air};
@@ -35,6 +38,7 @@ use pt_sensors::SensorRows;
 use pt_tags::Memory;
 use pt_turn::open_all;
 use pt_types::{Air, Graph};
+use pt_words::GraphFile;
 use std::alloc::Global;
 use std::sync::Arc;
 
@@ -45,7 +49,7 @@ struct Inputs {
     air: Air,
 }
 
-/// Runs the graph in the file with this name over the files of its sensors, with the lags of clocks and the transits of messages
+/// Runs the graph in this file over the files of its sensors, with the lags of clocks and the transits of messages
 /// that the file `air` says, in microseconds, and writes the tables of its actuators and, if `log` is true, its log.
 ///
 /// No clock is read. Before the file `air`, the graph file and the sensors' files are read and refused as in a paced run, late rows
@@ -53,7 +57,7 @@ struct Inputs {
 /// needed too many claims, `Write` or `Memory`. Nothing depends on the number of workers, 1 to 64.
 pub fn replay<S: Source, K: Sink, E: Sink>(
     alloc: Global,
-    name: &str,
+    graph_file: GraphFile,
     air: &str,
     workers: u32,
     log: bool,
@@ -62,19 +66,23 @@ pub fn replay<S: Source, K: Sink, E: Sink>(
     notes: &mut E,
     blocks: &Blocks,
 ) -> Ending
+    requires { graph_file.claims ≤ greatest_claims }
     ensures status { result.status ≡ status_of result.fault result.misses }
-    ensures asks { AsksFrom result.fault (S.contents source.old) blocks.now.listed.items name.now
-        (λ g. g.actors) (air.now ∷ []) (S.asked source.old) (S.asked source.new) }
-    ensures due { IsDue (Some (to_replay name.now air.now workers log))
+    ensures asks { AsksFrom result.fault (S.contents source.old) blocks.now.listed.items
+        (file_in graph_file.entry) (λ g. g.actors) (air.now ∷ []) (S.asked source.old)
+        (S.asked source.new) }
+    ensures due { IsDue (Some (to_replay (file_in graph_file.entry) air.now workers log))
         (S.contents source.old) blocks.now.listed.items
         (answer_by result (reading S.Source source.old source.new)
         (writing K.Sink out.old out.new)) }
     ensures flushed { result.fault ≡ None → K.flushed out.new }
     ensures notes { ReportsBy result.fault result.misses result.platforms.items
-        (Some (paced_run, name.now)) (S.contents source.old) blocks.now.listed.items
+        (Some (paced_run, file_in graph_file.entry)) (S.contents source.old) blocks.now.listed.items
         (writing E.Sink notes.old notes.new) }
+    ensures reads { LeavesReads result.fault (S.faults source.old) (S.faults source.new) }
+    ensures writes { LeavesWrites result.fault (K.faults out.old) (K.faults out.new) }
 {
-    match graph_at(alloc, source, name, blocks) {
+    match graph_at(alloc, source, graph_file, blocks) {
         Ok(graph) => replay_graph(alloc, graph, air, workers, log, source, out, notes, blocks),
         Err(fault) => {
             let fault = report(alloc, notes, fault, None);
@@ -105,6 +113,8 @@ fn replay_graph<S: Source, K: Sink, E: Sink>(
     ensures flushed { result.fault ≡ None → K.flushed out.new }
     ensures notes { Reports result.fault result.misses (Some graph)
         (writing E.Sink notes.old notes.new) }
+    ensures reads { LeavesReads result.fault (S.faults source.old) (S.faults source.new) }
+    ensures writes { LeavesWrites result.fault (K.faults out.old) (K.faults out.new) }
 {
     let plan = match planned(alloc, graph, notes) {
         Ok(plan) => plan,
@@ -134,6 +144,7 @@ fn replay_of<S: Source>(
         (IsReplayed air.now log (S.contents source.old) (arc_value plan.now).graph [])) }
     ensures asks { AsksOver (stop_in result) [] (arc_value plan.now).graph.actors (air.now ∷ [])
         (S.asked source.old) (S.asked source.new) }
+    ensures reads { LeavesReads (stop_in result) (S.faults source.old) (S.faults source.new) }
 {
     let Inputs { entries, air } = match read_inputs(alloc, plan, air, source) {
         Ok(inputs) => inputs,
@@ -161,6 +172,7 @@ fn read_inputs<S: Source>(
         (λ p rows. AfterAir air.now (S.contents source.old) (arc_value plan.now).graph [] a ⊥))) }
     ensures asks { AsksOver (fault_in result) [] (arc_value plan.now).graph.actors (air.now ∷ [])
         (S.asked source.old) (S.asked source.new) }
+    ensures reads { LeavesReads (fault_in result) (S.faults source.old) (S.faults source.new) }
 {
     let RowsAndBytes { entries, bytes } = match fetched(alloc, plan, LastFile::Air, air, source) {
         Ok(found) => found,

@@ -16,6 +16,7 @@ ghost use Rattle.pt_run.specs.Reporting.{Reports};
 ghost use Rattle.pt_run.specs.Runs.{CauseOfStop, HasOutputs, read_with};
 ghost use Rattle.pt_run.specs.Statuses.{status_of};
 ghost use Rattle.pt_run.specs.Texts.{left_with, stop_in};
+ghost use Rattle.pt_run.specs.Counts.{LeavesReads, LeavesWrites};
 
 use crate::admission::{opened_of, planned};
 use crate::engines::run_by;
@@ -64,6 +65,8 @@ pub fn run_graph<S: Source, K: Sink, E: Sink, C: Clock + Send, R: Threads + Wait
     ensures flushed { result.fault ≡ None → K.flushed out.new }
     ensures notes { Reports result.fault result.misses (Some graph)
         (writing E.Sink notes.old notes.new) }
+    ensures reads { LeavesReads result.fault (S.faults source.old) (S.faults source.new) }
+    ensures writes { LeavesWrites result.fault (K.faults out.old) (K.faults out.new) }
 {
     let plan = match planned(alloc, graph, notes) {
         Ok(plan) => plan,
@@ -102,6 +105,7 @@ fn run_plan<S: Source, C: Clock + Send, R: Threads + Wait + Sync>(
         AreBackBy clock (stop_in result) clocks.old.items clocks.new.items }
     ensures asks { AsksOver (stop_in result) [] (arc_value plan.now).graph.actors []
         (S.asked source.old) (S.asked source.new) }
+    ensures reads { LeavesReads (stop_in result) (S.faults source.old) (S.faults source.new) }
 {
     let platforms = match opened_of(alloc, plan, source) {
         Ok(platforms) => platforms,

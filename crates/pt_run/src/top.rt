@@ -1,6 +1,6 @@
 //! The top call.
 
-ghost use Rattle.std.specs.Prelude.{◌≡◌, ◌≢◌, ◌↔◌, None, Some, [], flat_map, length, string_bytes};
+ghost use Rattle.std.specs.Prelude.{◌≡◌, ◌≤◌, ◌≢◌, ◌↔◌, None, Some, [], flat_map, length, string_bytes};
 ghost use Rattle.pt_io.specs.Calls.{reading, writing};
 ghost use Rattle.pt_io.specs.Clocks.{viewed};
 ghost use Rattle.pt_types.specs.Lawful.{IsLawful};
@@ -15,10 +15,13 @@ ghost use Rattle.pt_run.specs.InBounds.{IsCompleteInBounds};
 ghost use Rattle.pt_run.specs.OverFiles.{HasHeadline};
 ghost use Rattle.pt_run.specs.Statuses.{status_of};
 ghost use Rattle.pt_words.specs.Grammar.{order_of, over};
+ghost use Rattle.pt_words.specs.Views.{file_in};
+ghost use Rattle.pt_types.specs.Limits.{greatest_claims};
 ghost use Rattle.pt_run.specs.Making.{ReportsOf};
 ghost use Rattle.pt_run.specs.Replaying.{IsReplayHeadline};
 ghost use Rattle.pt_run.specs.Reporting.{Reports, ReportsBy};
 ghost use Rattle.pt_run.specs.Texts.{PutsOrReports, left_at, left_of, left_over};
+ghost use Rattle.pt_run.specs.Counts.{LeavesReads, LeavesWrites};
 
 use crate::admission::graph_at;
 use crate::audit::audit;
@@ -36,13 +39,14 @@ use crate::slacks::slacks_answer;
 use pt_blocks::Blocks;
 use pt_io::{Clock, Sink, Source};
 use pt_types::Graph;
-use pt_words::{Command, Order, order};
+use pt_words::{Command, GraphFile, Order, order};
 use std::alloc::Global;
 use std::sync::Wait;
 use std::thread::Threads;
 
 /// Runs the command of these words, those after the program's name: `run GRAPH`, `check GRAPH`, `meaning GRAPH`,
-/// `make NUMBER`, `migrate GRAPH`, `slacks GRAPH`, `audit GRAPH LOG` or `replay GRAPH AIR`.
+/// `make NUMBER`, `migrate GRAPH`, `slacks GRAPH`, `audit GRAPH LOG` or `replay GRAPH AIR`. With `--claims N` a platform may make N
+/// claims, from 200,000, as without it, to 100,000,000, and the limits of sensor files, recordings and logs follow from N.
 ///
 /// Files are read from the source by name; `make` reads none. The text goes to `out`, a line in each put. After a fault,
 /// one line on `notes` says why; after a run with misses, one line for each. In a run by the machine's clock platform i reads
@@ -120,6 +124,9 @@ pub fn ptides<S: Source, K: Sink, E: Sink, C: Clock + Send, R: Threads + Wait + 
         (S.contents source.old) blocks.now.listed.items
         (reading S.Source source.old source.new)
         (writing K.Sink out.old out.new) }
+    // A read that failed, and a write, shows in the status: unless it is 7, 8 or 9 for that, the counts are as before the call.
+    ensures reads { LeavesReads result.fault (S.faults source.old) (S.faults source.new) }
+    ensures writes { LeavesWrites result.fault (K.faults out.old) (K.faults out.new) }
     // Unless memory ran out, the clocks come back: as many after a run by the machine's clock, else as they were.
     ensures clocks { result.fault ≢ Some Memory →
         AreBack (order_of words.now) result.fault clocks.items result.clocks.items }
@@ -169,6 +176,8 @@ fn run_order<S: Source, K: Sink, E: Sink, C: Clock + Send, R: Threads + Wait + S
     ensures notes { ReportsOf result.fault result.misses result.platforms.items (order_of words.now)
         (S.contents source.old) blocks.now.listed.items
         (writing E.Sink notes.old notes.new) }
+    ensures reads { LeavesReads result.fault (S.faults source.old) (S.faults source.new) }
+    ensures writes { LeavesWrites result.fault (K.faults out.old) (K.faults out.new) }
 {
     let fault = match order(alloc, words) {
         Ok(Some(Order::Over { command, graph })) => {
@@ -204,12 +213,12 @@ fn run_order<S: Source, K: Sink, E: Sink, C: Clock + Send, R: Threads + Wait + S
     Ending::refused(alloc, fault)
 }
 
-/// Runs a command on the graph in the file with this name.
+/// Runs a command on the graph in this file.
 fn run_file<S: Source, K: Sink, E: Sink, C: Clock + Send, R: Threads + Wait + Sync>(
     rt: &R,
     alloc: Global,
     command: Command,
-    name: &str,
+    graph_file: GraphFile,
     source: &mut S,
     out: &mut K,
     notes: &mut E,
@@ -217,10 +226,12 @@ fn run_file<S: Source, K: Sink, E: Sink, C: Clock + Send, R: Threads + Wait + Sy
     blocks: &Blocks,
 ) -> Ending
     requires clocks { length clocks.old.items ≡ 16 }
+    requires few { graph_file.claims ≤ greatest_claims }
     ensures status { result.status ≡ status_of result.fault result.misses }
-    ensures asks { AsksFrom result.fault (S.contents source.old) blocks.now.listed.items name.now
-        (actors_for command) [] (S.asked source.old) (S.asked source.new) }
-    ensures due { IsDue (Some (over command name.now))
+    ensures asks { AsksFrom result.fault (S.contents source.old) blocks.now.listed.items
+        (file_in graph_file.entry) (actors_for command) [] (S.asked source.old)
+        (S.asked source.new) }
+    ensures due { IsDue (Some (over command (file_in graph_file.entry)))
         (S.contents source.old) blocks.now.listed.items
         (as_answer result.fault
         (left_over result command (viewed C.readings C.ahead clocks.old.items)
@@ -231,10 +242,12 @@ fn run_file<S: Source, K: Sink, E: Sink, C: Clock + Send, R: Threads + Wait + Sy
         AreBackFor command result.fault clocks.old.items clocks.new.items }
     ensures flushed { result.fault ≡ None → K.flushed out.new }
     ensures notes { ReportsBy result.fault result.misses result.platforms.items
-        (Some (command, name.now)) (S.contents source.old) blocks.now.listed.items
+        (Some (command, file_in graph_file.entry)) (S.contents source.old) blocks.now.listed.items
         (writing E.Sink notes.old notes.new) }
+    ensures reads { LeavesReads result.fault (S.faults source.old) (S.faults source.new) }
+    ensures writes { LeavesWrites result.fault (K.faults out.old) (K.faults out.new) }
 {
-    match graph_at(alloc, source, name, blocks) {
+    match graph_at(alloc, source, graph_file, blocks) {
         Ok(graph) => {
             run_command(
                 rt, alloc, command, graph, source, out, notes, clocks, blocks,
@@ -276,6 +289,8 @@ fn run_command<S: Source, K: Sink, E: Sink, C: Clock + Send, R: Threads + Wait +
     ensures flushed { result.fault ≡ None → K.flushed out.new }
     ensures notes { Reports result.fault result.misses (Some graph)
         (writing E.Sink notes.old notes.new) }
+    ensures reads { LeavesReads result.fault (S.faults source.old) (S.faults source.new) }
+    ensures writes { LeavesWrites result.fault (K.faults out.old) (K.faults out.new) }
 {
     match command {
         Command::Run {
@@ -316,6 +331,7 @@ fn put_answer<K: Sink, E: Sink>(
     ensures flushed { result.fault ≡ None → K.flushed out.new }
     ensures notes { Reports result.fault result.misses (Some graph.now)
         (writing E.Sink notes.old notes.new) }
+    ensures writes { LeavesWrites result.fault (K.faults out.old) (K.faults out.new) }
 {
     let text = match answer {
         Ok(text) => text,

@@ -8,6 +8,7 @@ use Rattle.pt_words.specs.Grammar.{migrate}
 use Rattle.pt_run.specs.Written.{leaves_nothing}
 use Rattle.pt_run.proofs.Ending.{has_nothing, reported_due}
 use Rattle.pt_run.proofs.migrate.migrate.Goals as goal
+use Rattle.pt_words.specs.Views.{file_in}
 
 pub returns-in-Err-clause-due : goal.returns-in-Err-clause-due
 returns-in-Err-clause-due g c =
@@ -16,7 +17,7 @@ returns-in-Err-clause-due g c =
     let r : SourceCall = reading g.S.Source c.args.source.now c.migrated.new.source in
     let w : SinkCall = writing g.K.Sink c.args.out.now c.args.out.now in
     let a : Answer = record { fault = c.refused.result.fault; left = left_by c.refused.result; read = r; wrote = w } in
-    reported_due a c.in-Err.fault c.report-fault.result (IsDueTo (migrate c.args.name.now) contents blocks) (has_nothing c.refused.result [] [] c.refused.ensures.left) refl c.refused.ensures.fault c.report-fault.ensures.fault c.in-Err.ensures.due
+    reported_due a c.in-Err.fault c.report-fault.result (IsDueTo (migrate (file_in c.args.graph_file)) contents blocks) (has_nothing c.refused.result [] [] c.refused.ensures.left) refl c.refused.ensures.fault c.report-fault.ensures.fault c.in-Err.ensures.due
 
 pub returns-then-is_err-clause-due : goal.returns-then-is_err-clause-due
 returns-then-is_err-clause-due g c =
@@ -38,5 +39,5 @@ returns-clause-due g c =
 
 pub returns-in-Err-clause-asks : goal.returns-in-Err-clause-asks
 returns-in-Err-clause-asks g c =
-    from_reported (g.S.Source.contents c.args.source.now) c.args.blocks.now.listed.items c.args.name.now (λ z. []) [] (g.S.Source.asked c.args.source.now) (g.S.Source.asked c.migrated.new.source)
+    from_reported (g.S.Source.contents c.args.source.now) c.args.blocks.now.listed.items (file_in c.args.graph_file) (λ z. []) [] (g.S.Source.asked c.args.source.now) (g.S.Source.asked c.migrated.new.source)
     c.refused.result.fault c.in-Err.fault c.report-fault.result c.refused.ensures.fault c.report-fault.ensures.fault c.in-Err.ensures.asks

@@ -17,7 +17,7 @@ returns c =
     (subst (λ (p : Parts). (rows : ℕ → List Row) → HaveFinished p rows c.as_slice.result.now → AreTables p rows text) same c.in_ok-tables.ensures) in
     record {
       platforms_are = refl;
-      text = text_of_outputs plan c.args.log platforms c.in_ok-log.log text tables c.in_ok-log.ensures.asked;
+      text = text_of_outputs plan c.args.log platforms text tables;
       held = search rules;
       misses = search rules;
       lines = search rules;

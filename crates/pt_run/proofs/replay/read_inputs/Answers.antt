@@ -1,4 +1,4 @@
-use Rattle.std.proofs.Common.{◌≡◌, ◌↔◌, ◌∙◌, [], Ok, Err, None, ap, inl, length, subst}
+use Rattle.std.proofs.Common.{◌+◌, ◌≡◌, ◌↔◌, ◌∙◌, [], Ok, Err, None, ap, inl, length, subst}
 use Rattle.std.specs.Arc.{arc_value}
 use Rattle.pt_types.specs.declared.graph.Graph.{Graph}
 use Rattle.pt_offsets.specs.Plans.{Parts}
@@ -13,6 +13,7 @@ use Rattle.pt_run.proofs.ReplayEnds.{air_of-fetched, air_refused}
 use Rattle.pt_run.proofs.OverPlan.{past_all_rows}
 use Rattle.pt_run.proofs.Stages.{on_admitted}
 use Rattle.pt_run.proofs.replay.read_inputs.Goals as goal
+use Rattle.pt_sensors.specs.Limits.{file_limits}
 
 pub returns-in-Err-clause-refused : goal.returns-in-Err-clause-refused
 returns-in-Err-clause-refused g c =
@@ -36,7 +37,7 @@ returns-in-Ok-read_air-clause-recorded g c =
       in_time = has.in_time;
       places = has.places;
       fit = has.fit;
-      file = of_content (air_of plan.graph) 8388609 (air_of-fetched plan.graph) (contents c.args.air.now) bytes (Ok air) c.in-Ok.ensures.bytes read;
+      file = of_content (air_of plan.graph) ((file_limits plan.graph.claims).bytes + 1) (air_of-fetched plan.graph) (contents c.args.air.now) bytes (Ok air) c.in-Ok.ensures.bytes read;
       transits = c.in-Ok-read_air.ensures.lengths.1 ∙ ap (λ (h : Graph). length h.links) graph;
       bounds = subst (λ (h : Graph). (air.breach ≡ None) ↔ KeepsBounds h air) graph c.in-Ok-read_air.ensures.bounds;
     }
@@ -51,6 +52,6 @@ returns-in-Err-read_air-clause-refused g c =
     let f = c.in-Err-read_air.fault in
     λ a is out. past_all_rows contents plan c.in-Ok.found.entries.items (λ a p rows. AfterAir name contents plan.graph [] a ⊥) c.in-Ok.ensures.rows a
     (air_refused name contents plan.graph f a (λ other.
-    of_content (air_of plan.graph) 8388609 (air_of-fetched plan.graph) (contents name) bytes (Err f) c.in-Ok.ensures.bytes
+    of_content (air_of plan.graph) ((file_limits plan.graph.claims).bytes + 1) (air_of-fetched plan.graph) (contents name) bytes (Err f) c.in-Ok.ensures.bytes
     (subst (λ bytes. air_of plan.graph bytes ≡ Err f) c.as_slice.ensures.value (subst (λ (h : Graph). air_of h c.as_slice.result.now ≡ Err f) graph (c.in-Err-read_air.ensures.air other))))
     (subst (λ e. RefusedWith e a) c.fault_of_air.ensures out))

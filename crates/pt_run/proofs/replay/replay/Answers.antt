@@ -10,6 +10,7 @@ use Rattle.pt_run.proofs.Ending.{has_nothing}
 use Rattle.pt_run.proofs.Stages.{graph_reported, replay_on_file, replay_past}
 use Rattle.pt_run.proofs.Reported.{reported_file}
 use Rattle.pt_run.proofs.replay.replay.Goals as goal
+use Rattle.pt_words.specs.Views.{file_in}
 
 pub returns-in-Ok-clause-due : goal.returns-in-Ok-clause-due
 returns-in-Ok-clause-due g c =
@@ -18,14 +19,14 @@ returns-in-Ok-clause-due g c =
     let w : SinkCall = writing g.K.Sink c.args.out.now c.replay_graph.new.out in
     let left : Leaves = left_by c.replay_graph.result in
     let a : Answer = record { fault = c.replay_graph.result.fault; left = left; read = r; wrote = w } in
-    replay_on_file contents c.args.blocks.now.listed.items c.args.name.now c.in-Ok.graph c.in-Ok.ensures.graph c.replay_graph.result.fault left
+    replay_on_file contents c.args.blocks.now.listed.items (file_in c.args.graph_file) c.in-Ok.graph c.in-Ok.ensures.graph c.replay_graph.result.fault left
     (g.S.Source.asked c.args.source.now) (g.S.Source.asked c.graph_at.new.source) (g.S.Source.asked c.replay_graph.new.source)
     (g.S.Source.faults c.args.source.now) (g.S.Source.faults c.graph_at.new.source) (g.S.Source.faults c.replay_graph.new.source) w
     c.in-Ok.ensures.asks c.graph_at.ensures.grows c.args.air.now c.args.workers c.args.log (subst (λ (t : Contents). UnlessMemory a (IsReplayed c.args.air.now c.args.log t c.in-Ok.graph [])) c.graph_at.ensures.keeps c.replay_graph.ensures.due)
 
 pub returns-in-Ok-clause-asks : goal.returns-in-Ok-clause-asks
 returns-in-Ok-clause-asks g c =
-    asks_on (g.S.Source.contents c.args.source.now) c.args.blocks.now.listed.items c.args.name.now (λ (h : Graph). h.actors) (c.args.air.now ∷ []) (g.S.Source.asked c.args.source.now) (g.S.Source.asked c.replay_graph.new.source) c.in-Ok.graph c.replay_graph.result.fault (g.S.Source.asked c.graph_at.new.source)
+    asks_on (g.S.Source.contents c.args.source.now) c.args.blocks.now.listed.items (file_in c.args.graph_file) (λ (h : Graph). h.actors) (c.args.air.now ∷ []) (g.S.Source.asked c.args.source.now) (g.S.Source.asked c.replay_graph.new.source) c.in-Ok.graph c.replay_graph.result.fault (g.S.Source.asked c.graph_at.new.source)
     c.in-Ok.ensures.graph c.in-Ok.ensures.asks c.replay_graph.ensures.asks
 
 pub returns-in-Ok-clause-notes : goal.returns-in-Ok-clause-notes
@@ -34,7 +35,7 @@ returns-in-Ok-clause-notes g c =
     let w : SinkCall = writing g.K.Sink c.args.out.now c.replay_graph.new.out in
     let notes : SinkCall = writing g.E.Sink c.args.notes.now c.replay_graph.new.notes in
     let past = replay_past (g.S.Source.contents c.graph_at.new.source) c.in-Ok.graph [] (record { fault = c.replay_graph.result.fault; left = left_by c.replay_graph.result; read = r; wrote = w }) c.args.air.now c.args.log c.replay_graph.ensures.due in
-    reported_file paced_run c.replay_graph.result.fault c.replay_graph.result.misses c.replay_graph.result.platforms.items (g.S.Source.contents c.args.source.now) c.args.blocks.now.listed.items c.args.name.now c.in-Ok.graph notes c.in-Ok.ensures.graph past.0 c.replay_graph.ensures.notes
+    reported_file paced_run c.replay_graph.result.fault c.replay_graph.result.misses c.replay_graph.result.platforms.items (g.S.Source.contents c.args.source.now) c.args.blocks.now.listed.items (file_in c.args.graph_file) c.in-Ok.graph notes c.in-Ok.ensures.graph past.0 c.replay_graph.ensures.notes
 
 pub returns-in-Err-clause-due : goal.returns-in-Err-clause-due
 returns-in-Err-clause-due g c =
@@ -43,9 +44,9 @@ returns-in-Err-clause-due g c =
     let r : SourceCall = reading g.S.Source c.args.source.now c.graph_at.new.source in
     let w : SinkCall = writing g.K.Sink c.args.out.now c.args.out.now in
     let a : Answer = record { fault = c.refused.result.fault; left = left_by c.refused.result; read = r; wrote = w } in
-    graph_reported contents blocks c.args.name.now a (λ z. IsReplayed c.args.air.now c.args.log contents z (c.args.name.now ∷ []) a) (has_nothing c.refused.result [] [] c.refused.ensures.left) refl c.in-Err.fault c.report-fault.result c.refused.ensures.fault c.report-fault.ensures.fault c.in-Err.ensures.refused
+    graph_reported contents blocks (file_in c.args.graph_file) a (λ z. IsReplayed c.args.air.now c.args.log contents z (c.args.graph_file.name.now ∷ []) a) (has_nothing c.refused.result [] [] c.refused.ensures.left) refl c.in-Err.fault c.report-fault.result c.refused.ensures.fault c.report-fault.ensures.fault c.in-Err.ensures.refused
 
 pub returns-in-Err-clause-asks : goal.returns-in-Err-clause-asks
 returns-in-Err-clause-asks g c =
-    from_graph (g.S.Source.contents c.args.source.now) c.args.blocks.now.listed.items c.args.name.now (λ (h : Graph). h.actors) (c.args.air.now ∷ []) (g.S.Source.asked c.args.source.now) (g.S.Source.asked c.graph_at.new.source)
+    from_graph (g.S.Source.contents c.args.source.now) c.args.blocks.now.listed.items (file_in c.args.graph_file) (λ (h : Graph). h.actors) (c.args.air.now ∷ []) (g.S.Source.asked c.args.source.now) (g.S.Source.asked c.graph_at.new.source)
     c.refused.result.fault c.in-Err.fault c.report-fault.result c.refused.ensures.fault c.report-fault.ensures.fault c.in-Err.ensures.asks_alone

@@ -1,4 +1,4 @@
-use Rattle.std.proofs.Common.{◌≡◌, [], None, Some, ap, inl, subst, sym}
+use Rattle.std.proofs.Common.{[], None, Some, ap, inl, subst, sym}
 use Rattle.std.specs.Arc.{arc_value}
 use Rattle.pt_io.specs.Calls.{SourceCall, reading}
 use Rattle.pt_io.specs.Clocks.{viewed}

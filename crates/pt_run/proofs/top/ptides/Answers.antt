@@ -3,6 +3,7 @@ use Rattle.pt_io.specs.Clocks.{viewed}
 use Rattle.pt_run.specs.Due.{Answer}
 use Rattle.pt_run.specs.Texts.{left_at}
 use Rattle.pt_words.specs.Grammar.{order_of}
+use Rattle.pt_words.proofs.Numbers.{few_claims}
 use Rattle.pt_run.proofs.OfDue as of_due
 use Rattle.pt_run.proofs.top.ptides.Goals as goal
 
@@ -54,7 +55,7 @@ returns-clause-exact g c =
       read = reading g.S.Source c.args.source.now c.run_order-ending.new.source;
       wrote = writing g.K.Sink c.args.out.now c.run_order-ending.new.out;
     } in
-    of_due.exact (order_of c.args.words.now) (g.S.Source.contents c.args.source.now) c.args.blocks.now.listed.items a c.run_order-ending.ensures.due
+    of_due.exact (order_of c.args.words.now) (g.S.Source.contents c.args.source.now) c.args.blocks.now.listed.items a c.run_order-ending.ensures.due (few_claims c.args.words.now)
 
 pub returns-clause-complete : goal.returns-clause-complete
 returns-clause-complete g c =

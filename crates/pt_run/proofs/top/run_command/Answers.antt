@@ -53,6 +53,8 @@ returns-in-Run g c =
       clocks = λ never. subst (λ (d : Command). AreBackFor d c.run_graph.result.fault c.args.clocks.now.items c.run_graph.new.clocks.items) (sym c.in-Run.is) (c.run_graph.ensures.clocks never);
       flushed = c.run_graph.ensures.flushed;
       notes = c.run_graph.ensures.notes;
+      reads = c.run_graph.ensures.reads;
+      writes = c.run_graph.ensures.writes;
     }
 
 pub returns-in-Check-clause-asks : goal.returns-in-Check-clause-asks

@@ -11,6 +11,7 @@ use Rattle.pt_run.proofs.Asks.{asks_on, from_graph}
 use Rattle.pt_run.proofs.Ending.{has_nothing}
 use Rattle.pt_run.proofs.Stages.{command_on_file, command_past, graph_reported}
 use Rattle.pt_run.proofs.top.run_file.Goals as goal
+use Rattle.pt_words.specs.Views.{file_in}
 
 pub returns-in-Ok-clause-due : goal.returns-in-Ok-clause-due
 returns-in-Ok-clause-due g c =
@@ -19,14 +20,14 @@ returns-in-Ok-clause-due g c =
     let w : SinkCall = writing g.K.Sink c.args.out.now c.run_command.new.out in
     let left : Leaves = left_over c.run_command.result c.args.command (viewed g.C.Clock.readings g.C.Clock.ahead c.args.clocks.now.items) (viewed g.C.Clock.readings g.C.Clock.ahead c.run_command.new.clocks.items) in
     let a : Answer = record { fault = c.run_command.result.fault; left = left; read = r; wrote = w } in
-    command_on_file contents c.args.blocks.now.listed.items c.args.name.now c.in-Ok.graph c.in-Ok.ensures.graph c.run_command.result.fault left
+    command_on_file contents c.args.blocks.now.listed.items (file_in c.args.graph_file) c.in-Ok.graph c.in-Ok.ensures.graph c.run_command.result.fault left
     (g.S.Source.asked c.args.source.now) (g.S.Source.asked c.graph_at.new.source) (g.S.Source.asked c.run_command.new.source)
     (g.S.Source.faults c.args.source.now) (g.S.Source.faults c.graph_at.new.source) (g.S.Source.faults c.run_command.new.source) w
     c.in-Ok.ensures.asks c.graph_at.ensures.grows c.args.command (subst (λ (t : Contents). UnlessMemory a (IsDueFor c.args.command t c.in-Ok.graph [])) c.graph_at.ensures.keeps c.run_command.ensures.due)
 
 pub returns-in-Ok-clause-asks : goal.returns-in-Ok-clause-asks
 returns-in-Ok-clause-asks g c =
-    asks_on (g.S.Source.contents c.args.source.now) c.args.blocks.now.listed.items c.args.name.now (actors_for c.args.command) [] (g.S.Source.asked c.args.source.now) (g.S.Source.asked c.run_command.new.source) c.in-Ok.graph c.run_command.result.fault (g.S.Source.asked c.graph_at.new.source)
+    asks_on (g.S.Source.contents c.args.source.now) c.args.blocks.now.listed.items (file_in c.args.graph_file) (actors_for c.args.command) [] (g.S.Source.asked c.args.source.now) (g.S.Source.asked c.run_command.new.source) c.in-Ok.graph c.run_command.result.fault (g.S.Source.asked c.graph_at.new.source)
     c.in-Ok.ensures.graph c.in-Ok.ensures.asks c.run_command.ensures.asks
 
 pub returns-in-Ok-clause-notes : goal.returns-in-Ok-clause-notes
@@ -36,7 +37,7 @@ returns-in-Ok-clause-notes g c =
     let notes : SinkCall = writing g.E.Sink c.args.notes.now c.run_command.new.notes in
     let left : Leaves = left_over c.run_command.result c.args.command (viewed g.C.Clock.readings g.C.Clock.ahead c.args.clocks.now.items) (viewed g.C.Clock.readings g.C.Clock.ahead c.run_command.new.clocks.items) in
     let past = command_past (g.S.Source.contents c.graph_at.new.source) c.in-Ok.graph [] (record { fault = c.run_command.result.fault; left = left; read = r; wrote = w }) c.args.command c.run_command.ensures.due in
-    reported_file c.args.command c.run_command.result.fault c.run_command.result.misses c.run_command.result.platforms.items (g.S.Source.contents c.args.source.now) c.args.blocks.now.listed.items c.args.name.now c.in-Ok.graph notes c.in-Ok.ensures.graph past.0 c.run_command.ensures.notes
+    reported_file c.args.command c.run_command.result.fault c.run_command.result.misses c.run_command.result.platforms.items (g.S.Source.contents c.args.source.now) c.args.blocks.now.listed.items (file_in c.args.graph_file) c.in-Ok.graph notes c.in-Ok.ensures.graph past.0 c.run_command.ensures.notes
 
 pub returns-in-Err-clause-due : goal.returns-in-Err-clause-due
 returns-in-Err-clause-due g c =
@@ -46,9 +47,9 @@ returns-in-Err-clause-due g c =
     let w : SinkCall = writing g.K.Sink c.args.out.now c.args.out.now in
     let views = viewed g.C.Clock.readings g.C.Clock.ahead c.args.clocks.now.items in
     let a : Answer = record { fault = c.refused.result.fault; left = left_over c.refused.result c.args.command views views; read = r; wrote = w } in
-    graph_reported contents blocks c.args.name.now a (λ z. IsDueFor c.args.command contents z (c.args.name.now ∷ []) a) (has_nothing c.refused.result (read_for c.args.command views) (read_for c.args.command views) c.refused.ensures.left) refl c.in-Err.fault c.report-fault.result c.refused.ensures.fault c.report-fault.ensures.fault c.in-Err.ensures.refused
+    graph_reported contents blocks (file_in c.args.graph_file) a (λ z. IsDueFor c.args.command contents z (c.args.graph_file.name.now ∷ []) a) (has_nothing c.refused.result (read_for c.args.command views) (read_for c.args.command views) c.refused.ensures.left) refl c.in-Err.fault c.report-fault.result c.refused.ensures.fault c.report-fault.ensures.fault c.in-Err.ensures.refused
 
 pub returns-in-Err-clause-asks : goal.returns-in-Err-clause-asks
 returns-in-Err-clause-asks g c =
-    from_graph (g.S.Source.contents c.args.source.now) c.args.blocks.now.listed.items c.args.name.now (actors_for c.args.command) [] (g.S.Source.asked c.args.source.now) (g.S.Source.asked c.graph_at.new.source)
+    from_graph (g.S.Source.contents c.args.source.now) c.args.blocks.now.listed.items (file_in c.args.graph_file) (actors_for c.args.command) [] (g.S.Source.asked c.args.source.now) (g.S.Source.asked c.graph_at.new.source)
     c.refused.result.fault c.in-Err.fault c.report-fault.result c.refused.ensures.fault c.report-fault.ensures.fault c.in-Err.ensures.asks_alone
