@@ -5,7 +5,7 @@ largest     1,024 actors, 1,920 units, 4,096 wires, all on one platform, with fe
 chain       1,000 actors in a row
 dense       250 actors, each a merge of eight that stand before it
 two_ways    500 merges and 500 delays in a row, with wires in both directions
-n64 .. n1024   as largest, with so many actors
+n64 .. n1024   as largest, with 64 .. 1024 actors
 """
 import json
 import os

@@ -113,7 +113,7 @@ def fan_out_delayed(width=100, tags=100):
 
 
 def readers_waiting(merges=450, tags=400):
-    """The output of a long delay has eight readers for each merge: each tag is so many events, and all wait at once."""
+    """The output of a long delay has eight readers for each merge: each tag is as many events, and all wait at once."""
     graph = Graph()
     far = graph.add("far", "delay", graph.sensor("s", range(1, tags + 1)), d=FAR)
     for number in range(merges):

@@ -14,24 +14,24 @@ _ptides_companions() { # WORD
 # Made by tools/make-companion-pages.py:
 _ptides_companion_options() { # NAME [KIND]
     case $1 in
-        bench) echo '-h --help --version --junit --update --jobs --timeout --dask' ;;
+        bench) echo '-h --help --version --junit --update --jobs --timeout --claims --dask' ;;
         dot) echo '-h --help --version' ;;
         explain) echo '-h --help --version --line' ;;
-        lint) echo '-h --help --version --strict' ;;
+        lint) echo '-h --help --version --claims --strict' ;;
         probe) echo '-h --help --version' ;;
-        report) echo '-h --help --version -o --output --clock --zero --zone --title' ;;
+        report) echo '-h --help --version -o --output --clock --claims --zero --zone --title' ;;
         rows)
             case ${2-} in
-                candump) echo '-h --help --id --bytes --order --bits --signed --bus --period --phase --latency --last --scale --shift --round --zero --start --zone --from --to --row -o' ;;
-                can) echo '-h --help --id --bytes --order --bits --signed --bus --signals --raw --period --phase --latency --last --scale --shift --round --zero --start --zone --from --to --row --dbc -o' ;;
-                vcd) echo '-h --help --signal --signed --period --phase --latency --last --scale --shift --round --zero --start --zone --from --to --row -o' ;;
-                csv) echo '-h --help --period --phase --latency --last --scale --shift --round --zero --start --zone --from --to --row --stamp --unit --value --time --where --missing --preamble --skip --delimiter --decimal -o' ;;
-                air) echo '-h --help --sender --bus --sent-lag --received-lag --other-data --row -o' ;;
+                candump) echo '-h --help --id --bytes --order --bits --signed --bus --period --phase --latency --last --scale --shift --round --zero --start --zone --from --to --row --claims -o' ;;
+                can) echo '-h --help --id --bytes --order --bits --signed --bus --signals --raw --period --phase --latency --last --scale --shift --round --zero --start --zone --from --to --row --claims --dbc -o' ;;
+                vcd) echo '-h --help --signal --signed --period --phase --latency --last --scale --shift --round --zero --start --zone --from --to --row --claims -o' ;;
+                csv) echo '-h --help --period --phase --latency --last --scale --shift --round --zero --start --zone --from --to --row --claims --stamp --unit --value --time --where --missing --preamble --skip --delimiter --decimal -o' ;;
+                air) echo '-h --help --sender --bus --sent-lag --received-lag --other-data --row --claims -o' ;;
                 *) echo '-h --help --version' ;;
             esac
             ;;
         timing) echo '-h --help --version --markdown --only' ;;
-        wave) echo '-h --help --version --clock --workers --vcd --csv --svg --trace --from --to --zero --zone --wall --no-inner' ;;
+        wave) echo '-h --help --version --clock --workers --claims --vcd --csv --svg --trace --from --to --zero --zone --wall --no-inner' ;;
     esac
 }
 
@@ -74,7 +74,7 @@ _ptides_has_graph() { # INDEX OF THE COMMAND
         word=${COMP_WORDS[index]}
         # In `--workers=4` the `=` is a word of its own.
         [[ $word != = ]] || continue
-        [[ $word == -* || $before == --workers ]] || return 0
+        [[ $word == -* || $before == --@(workers|claims) ]] || return 0
         before=$word
     done
     return 1
@@ -114,15 +114,18 @@ _ptides() {
         mapfile -t COMPREPLY < <(compgen -W "run check meaning make migrate slacks audit replay $(_ptides_companions "${COMP_WORDS[0]}")" -- "$current")
     elif [[ $before == --workers ]]; then
         mapfile -t COMPREPLY < <(compgen -W "$(seq 1 64)" -- "$current")
+    elif [[ $before == --claims ]]; then
+        mapfile -t COMPREPLY < <(compgen -W '1000000 10000000 100000000' -- "$current")
     elif [[ $before == --clock ]]; then
         mapfile -t COMPREPLY < <(compgen -W 'machine paced step:' -- "$current")
         [[ ${COMPREPLY[*]} != step: ]] || compopt -o nospace 2>/dev/null
     elif [[ $current == -* ]]; then
         case $command in
-            run) options='--workers --clock --log' ;;
+            run) options='--workers --clock --log --claims' ;;
             make) options=--workers ;;
-            replay) options='--workers --log' ;;
-            check | meaning | migrate | slacks | audit) ;;
+            replay) options='--workers --log --claims' ;;
+            meaning | audit) options=--claims ;;
+            check | migrate | slacks) ;;
             *) options=$(_ptides_companion_options "$command" "${COMP_WORDS[first + 1]}") ;;
         esac
         for option in $options; do
@@ -140,12 +143,6 @@ _ptides() {
         compopt -o filenames 2>/dev/null
     elif [[ $command == probe && $COMP_CWORD -gt $((first + 1)) ]]; then
         mapfile -t COMPREPLY < <(compgen -W "$(_ptides_actors "$folder" "${COMP_WORDS[first + 1]}")" -- "$current")
-    elif [[ $command == bench ]]; then
-        mapfile -t COMPREPLY < <(
-            unset CDPATH
-            cd -- "$folder" 2>/dev/null && compgen -d -- "$current"
-        )
-        compopt -o filenames 2>/dev/null
     elif [[ $command == rows || $before == -o || $before == --@(vcd|csv|svg|trace|junit|dbc) ]]; then
         mapfile -t COMPREPLY < <(
             unset CDPATH

@@ -15,7 +15,7 @@ A cell of clauses has lists, with `;` between them: one for each name, or one fo
     1 of each question         so have those of a type that take `&self`
     1 of each other question   so have those of them of which the cell names no clause
 
-Where a cell says how many theorems there are, the crate has so many that no row names, each with its one clause. A theorem is a
+Where a cell says how many theorems there are, the crate has that many that no row names, each with its one clause. A theorem is a
 public function whose body is empty. The last line is `N passed, M failed`.
 """
 from __future__ import annotations

@@ -21,8 +21,6 @@ from ptides import companion  # noqa: E402
 
 COMPLETION = TOP / "completions" / "ptides.bash"
 BEGIN, END = "# Made by tools/make-companion-pages.py:", "# End of what is made."
-# The places of words that are actors of the graph before them, and of those that are folders.
-ACTORS, FOLDERS = {"probe"}, {"bench"}
 
 
 def names() -> list[str]:

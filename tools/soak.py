@@ -1,5 +1,6 @@
 """Called by soak.sh, whose head says what it does: soak.py SECONDS PROGRAM FOLDER SEED JOBS."""
 import collections
+import functools
 import itertools
 import json
 import multiprocessing
@@ -33,6 +34,8 @@ class Cases:
         self.counts = collections.Counter()
         # What was written under each clock, whatever the number of workers.
         self.answers = {}
+        # Numbers of claims are chosen apart, so that the other choices are those that they were without them.
+        self.pick_claims = random.Random(json.dumps(self.graph))
 
     def all(self):
         """The cases, in the order in which they are tried."""
@@ -47,6 +50,7 @@ class Cases:
 
     def meaning(self):
         self.counts["meanings"] += self.program.meaning.status == 0 and self.program.firings is not None
+        self.more_claims(self.program.meaning)
 
     def texts(self):
         """The graph as a file of version 2 is what Python's `json` writes, says the same of itself, and is the same graph."""
@@ -81,6 +85,8 @@ class Cases:
                 self.counts["late messages"] += self.program.judge(result, clock)
                 self.same((clock, log), result)
                 self.audit(result)
+                if clock != "machine":
+                    self.more_claims(result)
 
     def same(self, key, result):
         clock, log = key
@@ -88,6 +94,14 @@ class Cases:
             for what, found in ((clock, result.ending), ((clock, log), result.output)):
                 if self.answers.setdefault(what, found) != found:
                     raise Difference("another text or status than with another number of workers")
+
+    def more_claims(self, result):
+        """Whatever number of claims a platform may make, it makes no other ones, unless it had made as many as it may."""
+        if result.status == 6 or not takes_claims(self.program.program):
+            return
+        number = self.pick_claims.choice([200_000, 200_001, 100_000_000, self.pick_claims.randint(200_000, 100_000_000)])
+        expect("another number of claims", result.whole, self.program.call(*result.words, "--claims", str(number)))
+        self.counts["more claims"] += 1
 
     def audit(self, result):
         """Of a graph with a late row each file is refused for that row."""
@@ -162,6 +176,13 @@ class Cases:
             self.counts["late messages"] += self.program.judge_replay(result, breach, run)
             expect("another number of workers", result.whole, self.program.call(*words, "--workers", str(self.pick.choice(WORKERS[1:]))))
             self.audit(result)
+            self.more_claims(result)
+
+
+@functools.lru_cache(maxsize=None)
+def takes_claims(program):
+    """Whether this is a program with the option."""
+    return subprocess.run([program, "meaning", "/dev/null/none", "--claims", "200000"], stdin=subprocess.DEVNULL, capture_output=True, check=False).returncode != 1
 
 
 def usage_of(program):
@@ -217,7 +238,7 @@ def summary(clocks, counts):
     print(f"{counts['graphs']} graphs, {counts['cases']} cases: {statuses or 'none ended'}; {counts['meanings']} meanings worked out, "
           f"{counts['runs']} runs under {' and '.join(clocks)}, {counts['slacks']} with the least slacks, "
           f"{counts['replays']} replays, {counts['breaches']} of them past a bound, "
-          f"{counts['late messages']} late messages, {counts['lawful logs']} logs are lawful, {counts['differences']} differences", flush=True)
+          f"{counts['more claims']} with another number of claims, {counts['late messages']} late messages, {counts['lawful logs']} logs are lawful, {counts['differences']} differences", flush=True)
 
 
 def main():

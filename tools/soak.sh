@@ -22,6 +22,8 @@
 #            and `run` misses nothing; with one less at a sender `check` and `run` name the first sender that can't send
 #   replay   by the head alone and over random networks within the bounds, status, notes, tables and the readings of all claims are those of
 #            the paced run; past them, a late message is named with the first row past a bound; for every number of workers all is the same
+#   claims   each meaning, each run by another clock than that of the machine, and each replay is made with another number of claims too, 200,000
+#            to 100,000,000, if the program takes it: it writes the same, unless it had ended with 6
 #   a file   of a sensor that is empty is refused
 #
 # Every other status, a run of more than 5 minutes and a text on standard error that isn't of its status are differences.

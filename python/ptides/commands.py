@@ -12,7 +12,7 @@ import re
 from pathlib import Path
 from typing import Any, Collection, Iterable, Mapping, NamedTuple, Optional, Union
 
-from ptides import companions, files, program
+from ptides import companions, files, limits, program
 from ptides.graphs import Changes, Graph, Placed, placed
 from ptides.program import Done, Fault, Refused
 from ptides.results import Result, Verdict
@@ -34,37 +34,40 @@ def given(sensors: Sensors, more: Sensors) -> dict[str, Any]:
 
 
 def run(graph: Graph, *, clock: Clock = "paced", workers: Optional[int] = None, log: bool = True, until: Any = None, zero: Any = None,
-        probes: Union[bool, Iterable[str]] = (), folder: Optional[PathLike] = None, sensors: Sensors = NOTHING, **more: Any) -> Result:
+        probes: Union[bool, Iterable[str]] = (), claims: Optional[int] = None, folder: Optional[PathLike] = None,
+        sensors: Sensors = NOTHING, **more: Any) -> Result:
     """Runs a graph. Misses are part of the result; any other fault raises `Refused`.
 
     Sensors are given by name, as `pedal=frame`, or in `sensors` if a name is also one of these words. `until` is another horizon than
     that of the graph. Stamps of sensors are counted from `zero`, or else from the whole second at or before the first of them. `probes`
     names actors whose outputs are to be watched too, or is `True` for all. Without `log` a long run takes less memory, and has no
-    `rooms`.
+    `rooms`. `claims` is how many firings a platform may make, from 200,000, the usual number, to 100,000,000.
 
         >>> result = run("examples/governor")
         >>> result.events["valve"]
         [Event(time=3500, step=0, value=1), Event(time=4500, step=0, value=0)]
     """
     changes = Changes(given(sensors, more), zero, until, probes)
-    words = [*options_of(clock, workers), *(["--log"] if log else [])]
+    words = [*options_of(clock, workers), *claims_words(claims), *(["--log"] if log else [])]
     with placed(graph, folder, changes) as ready:
-        return Result(ask(["run", ready.word, *words], ready, (0, 5)), ready)
+        return Result(ask(["run", ready.word, *words], ready, (0, 5)), ready, claims)
 
 
 def meaning(graph: Graph, *, until: Any = None, zero: Any = None, probes: Union[bool, Iterable[str]] = (),
-            folder: Optional[PathLike] = None, sensors: Sensors = NOTHING, **more: Any) -> Result:
+            claims: Optional[int] = None, folder: Optional[PathLike] = None, sensors: Sensors = NOTHING, **more: Any) -> Result:
     """What the definition says that a graph does: the tables alone, whatever its bounds and slacks, and whichever rows are late."""
+    words = claims_words(claims)
     with placed(graph, folder, Changes(given(sensors, more), zero, until, probes)) as ready:
-        return Result(ask(["meaning", ready.word], ready), ready)
+        return Result(ask(["meaning", ready.word, *words], ready), ready, claims)
 
 
 def replay(graph: Graph, air: Any, *, log: bool = True, until: Any = None, zero: Any = None, probes: Union[bool, Iterable[str]] = (),
-           folder: Optional[PathLike] = None, sensors: Sensors = NOTHING, **more: Any) -> Result:
+           claims: Optional[int] = None, folder: Optional[PathLike] = None, sensors: Sensors = NOTHING, **more: Any) -> Result:
     """Runs a graph over a recorded network: `air` is the path of an air file, or a DataFrame with its columns."""
     changes = Changes(given(sensors, more), zero, until, probes)
+    words = [*claims_words(claims), *(["--log"] if log else [])]
     with placed(graph, folder, changes) as ready, files.air_file(air) as path:
-        return Result(ask(["replay", ready.word, path, *(["--log"] if log else [])], ready, (0, 5)), ready)
+        return Result(ask(["replay", ready.word, path, *words], ready, (0, 5)), ready, claims)
 
 
 def check(graph: Graph) -> Rows[Margin]:
@@ -87,19 +90,23 @@ def slacks(graph: Graph) -> Rows[Slack]:
         return slacks_of(ask(["slacks", ready.word], ready).output)
 
 
-def audit(graph: Graph, log: Union[PathLike, Result], *, folder: Optional[PathLike] = None, sensors: Sensors = NOTHING,
-          **more: Any) -> Verdict:
+def audit(graph: Graph, log: Union[PathLike, Result], *, claims: Optional[int] = None, folder: Optional[PathLike] = None,
+          sensors: Sensors = NOTHING, **more: Any) -> Verdict:
     """Whether a log, a file or what a run wrote, is one that some run can have written.
+
+    `claims` is that of the run; of a result it is known.
 
         >>> result = run("examples/governor")
         >>> audit("examples/governor", result).lawful
         True
     """
+    options = claims_words(log.claims if claims is None and isinstance(log, Result) else claims)
     with placed(graph, folder, Changes(given(sensors, more))) as ready, files.kept(log_text(log), "log") as path:
-        done = ask(["audit", ready.word, path], ready, (0, 10))
+        words = ["audit", ready.word, path, *options]
+        done = ask(words, ready, (0, 10))
         if not done.status:
             return Verdict()
-        return Verdict(done.line, program.place_of(done.line), explanation_of(["audit", ready.word, path], ready, done.line))
+        return Verdict(done.line, program.place_of(done.line), explanation_of(words, ready, done.line))
 
 
 def log_text(log: Union[PathLike, Result]) -> Union[str, PathLike]:
@@ -110,11 +117,12 @@ def log_text(log: Union[PathLike, Result]) -> Union[str, PathLike]:
 
 
 def report(graph: Graph, file: PathLike, *, air: Any = None, clock: Clock = "paced", until: Any = None, zero: Any = None, title: str = "",
-           folder: Optional[PathLike] = None, sensors: Sensors = NOTHING, **more: Any) -> int:
+           claims: Optional[int] = None, folder: Optional[PathLike] = None, sensors: Sensors = NOTHING, **more: Any) -> int:
     """Runs a graph, or replays it over the recorded network `air`, and writes the page of the run. Gives the status of the run."""
     from ptides.reporting.from_python import write_report
 
-    return write_report(graph, file, air, clock, Changes(given(sensors, more), zero, until), title, folder)
+    how = How(clock, limits.claims_of(claims))
+    return write_report(graph, file, air, how, Changes(given(sensors, more), zero, until), title, folder)
 
 
 class Growth(NamedTuple):
@@ -171,16 +179,30 @@ class Remark(NamedTuple):
     text: str
 
 
-def lint(graph: Graph, *, folder: Optional[PathLike] = None, sensors: Sensors = NOTHING, **more: Any) -> Rows[Remark]:
-    """What is lawful in a graph and probably not meant.
+def lint(graph: Graph, *, claims: Optional[int] = None, folder: Optional[PathLike] = None, sensors: Sensors = NOTHING,
+         **more: Any) -> Rows[Remark]:
+    """What is lawful in a graph and probably not meant. `claims` is how many firings a platform may make in the runs that are meant.
 
         >>> [remark.text[:11] for remark in lint("examples/missed")]
         ['margin -101']
     """
+    words = claims_words(claims)
     with placed(graph, folder, Changes(given(sensors, more))) as ready:
-        output = ask_companion("lint", [ready.word], ready).output
+        output = ask_companion("lint", [ready.word, *words], ready).output
         found = re.findall(r"^" + re.escape(ready.word) + r"(?::(\d+))?: warning: (.*)$", output, re.MULTILINE)
     return Rows(Remark, (Remark(int(line) if line else None, text) for line, text in found))
+
+
+class How(NamedTuple):
+    """How a graph is run: by which clock, and with how many claims of a platform."""
+
+    clock: Clock = "paced"
+    claims: int = limits.USUAL_CLAIMS
+
+
+def claims_words(claims: Optional[int]) -> list[str]:
+    """The option for a number of claims that is given, which has to be one."""
+    return limits.words_of(limits.claims_of(claims))
 
 
 def options_of(clock: Clock, workers: Optional[int]) -> list[str]:

@@ -1,19 +1,17 @@
-"""How long a run may be: the horizon up to which no platform makes more firings than a run may have, and in how many parts a longer recording goes.
+"""What helps against a run that is too long: the horizon that fits, the number of claims that fits, or parts of the recording.
 
 A part has a zero of its own, so the ticks of `every` and the rows of sensors count from its start.
 """
 from __future__ import annotations
 
-import json
+import re
 from bisect import bisect_left, bisect_right
-from collections import Counter
 from typing import Any, NamedTuple, Optional
 
-from ptides import program
+from ptides import counting, limits, program
+from ptides.counting import Firings
 from ptides.files import records_of
 
-# How many firings a run may have on one platform.
-MOST_FIRINGS = 200_000
 # Parts are of whole seconds, if they have this many microseconds or more.
 LONG_PART, SECOND = 10**7, 10**6
 UNITS = [("h", 3_600_000_000), ("min", 60_000_000), ("s", 1_000_000), ("ms", 1000), ("us", 1)]
@@ -26,13 +24,20 @@ class Parts(NamedTuple):
     length: int
 
 
-class Horizon(NamedTuple):
-    """A horizon that fits, the platform that has the most firings up to it, and the parts of the recording, if it has rows."""
+class Whole(NamedTuple):
+    """How many firings the platform with the most makes in the whole run, and all together; without `is_counted` it is about that."""
 
-    until: int
-    platform: str
-    firings: int
-    parts: Optional[Parts] = None
+    most: int
+    all: int
+    is_counted: bool
+
+
+class Horizon(NamedTuple):
+    """A horizon that fits, the whole run, and the parts of the recording, if it has rows. Each may be unknown."""
+
+    fits: Optional[counting.Fits]
+    whole: Whole
+    parts: Optional[Parts]
 
 
 def duration(time: int) -> str:
@@ -81,56 +86,77 @@ class Sources:
         return low
 
 
+def longest(graph: dict[str, Any], claims: int) -> Optional[Horizon]:
+    """What fits of a run in which a platform makes more firings than its claims. Nothing if that can't be found.
 
-def firings(graph: dict[str, Any], until: int) -> Optional[Counter[str]]:
-    """How many firings each platform makes up to a time, counted in the log; nothing if the run is too long."""
-    done = program.ask(["run", "/dev/stdin", "--log"], accepted=(0, 5, 6), given=json.dumps({**graph, "until": until}))
-    if done.status == 6:
-        return None
-    counts: Counter[str] = Counter()
-    for turn in done.output.split("\nturn,")[1:]:
-        counts[turn[:turn.index(",")]] += turn.count("\nclaim,")
-    return counts
-
-
-def longest(graph: dict[str, Any]) -> Optional[Horizon]:
-    """A horizon for a graph whose run is too long, with nearly as many firings as a run may have. Nothing if none is found.
-
-    The firings up to a time that fits are counted in the log of a run. How many events come from outside up to then says how many
-    firings each of them makes, and so how many events fit; that is tried and counted in turn.
+    The claims are counted in the log of a run with far more of them. If the whole run is too long for that too, it is counted up to an
+    earlier time, and how many events come from outside up to then says how many firings the whole run makes.
     """
     try:
-        return search(graph, Sources(graph))
-    except (OSError, ValueError, IndexError, program.Fault):
+        return search(graph, Sources(graph), claims)
+    except (OSError, ValueError, LookupError, program.Fault):
         return None
 
 
-def search(graph: dict[str, Any], sources: Sources) -> Optional[Horizon]:
+def search(graph: dict[str, Any], sources: Sources, claims: int) -> Optional[Horizon]:
     """The same, with the events that come from outside."""
-    best, fits, too_many = None, 0, sources.count(sources.until)
-    guess = MOST_FIRINGS // max(1, len(graph["actors"]))
-    for _ in range(20):
-        guess = min(guess, too_many - 1)
-        until = sources.time_of(guess)
-        if best and until <= best.until:
-            break
-        counts = firings(graph, until)
-        if counts is None:
-            # Later events make more firings than those before.
-            too_many, guess = guess, (fits + guess) // 2
-            continue
-        platform, most = counts.most_common(1)[0] if counts else (graph["platforms"][0], 0)
-        best, fits = Horizon(until, platform, most), sources.count(until)
-        guess = MOST_FIRINGS * max(1, fits) // max(1, most)
-    return best and best._replace(parts=sources.parts(fits))
-
-
-def advice(graph: dict[str, Any]) -> list[str]:
-    """What helps against a run that is too long: the horizon that fits, the parts in which the recording goes, and what makes fewer firings."""
-    found, until = longest(graph), graph["until"]
+    most = counting.most_counted(claims)
+    found = past(graph, sources, claims, most)
     if found is None:
-        return ["lower `until`, raise periods, or give fewer rows"]
-    lines = [f"lower `until` from {until} ({duration(until)}) to {found.until} ({duration(found.until)}): then `run` makes {found.firings:,} firings on `{found.platform}`"]
+        return None
+    whole = whole_of(graph, sources, found, most)
+    fits = counting.fits(graph, found, claims, most)
+    return Horizon(fits, whole, sources.parts(sources.count(fits.until)) if fits else None)
+
+
+def past(graph: dict[str, Any], sources: Sources, claims: int, most: int) -> Optional[Firings]:
+    """The firings up to a time at which a platform has made more than its claims, and none more than are counted."""
+    total = sources.count(sources.until)
+    # Most events from outside make each actor fire once at most.
+    events, too_many = min(total, most // max(1, len(graph["actors"]))), total + 1
+    for _ in range(20):
+        if not 0 < events < too_many:
+            break
+        found = counting.counted(graph, sources.until if events == total else sources.time_of(events), most)
+        if found is None:
+            events, too_many = events // 4, events
+        elif found.most() > claims:
+            return found
+        else:
+            events = max(events + 1, min(2 * claims * events // max(1, found.most()), (events + too_many) // 2 if too_many <= total else total))
+    return None
+
+
+def whole_of(graph: dict[str, Any], sources: Sources, found: Firings, most: int) -> Whole:
+    """The firings of the whole run, of which these are a part, or all; they are counted if they aren't too many for that."""
+    share = sources.count(sources.until) / max(1, sources.count(found.until))
+    if found.until < sources.until and found.most() * share <= most:
+        whole = counting.counted(graph, sources.until, most)
+        found, share = (found, share) if whole is None else (whole, 1)
+    is_counted = found.until >= sources.until
+    return Whole(*(round(number * (1 if is_counted else share)) for number in (found.most(), sum(found.totals().values()))), is_counted)
+
+
+def claims_line(whole: Whole) -> str:
+    """With which number of claims the whole run fits, and what that takes."""
+    takes = f"it then keeps {limits.megabytes(whole.all)}"
+    if whole.most > limits.MOST_CLAIMS:
+        return f"the whole run makes {'' if whole.is_counted else 'about '}{whole.most:,} firings on a platform, more than `--claims {limits.MOST_CLAIMS}` allows"
+    if not whole.is_counted:
+        return f"or allow more firings: the whole run makes about {whole.most:,} on a platform, so `--claims` of that and some more; {takes}"
+    return f"or allow more firings: with `--claims {max(whole.most, limits.USUAL_CLAIMS + 1)}` the whole run fits; {takes}"
+
+
+def advice(graph: dict[str, Any], claims: int) -> list[str]:
+    """What helps against a run that is too long: the horizon that fits, how many claims it needs, and the parts in which the recording goes."""
+    found, until = longest(graph, claims), graph["until"]
+    if found is None:
+        return ["lower `until`, raise periods, give fewer rows, or allow more firings by `--claims`"]
+    lines = []
+    if found.fits:
+        fits = found.fits
+        lines.append(f"lower `until` from {until} ({duration(until)}) to {fits.until} ({duration(fits.until)}): then `run` makes {fits.firings:,} firings on `{fits.platform}`")
+    lines.append(claims_line(found.whole))
     if found.parts:
         number, length = found.parts
         lines.append(f"or take the recording in {number} parts of {duration(length)}: `rows` with a --zero for each, `--from 0 --to {length - 1}`, and {length - 1} as "
@@ -138,8 +164,9 @@ def advice(graph: dict[str, Any]) -> list[str]:
     return [*lines, "or raise periods, give fewer rows, or leave actors out, probes too"]
 
 
-def with_advice(refused: program.Refused, graph: dict[str, Any], companion: str) -> program.Refused:
-    """The refusal; of a run that is too long its notes go on with what helps, as said by a companion."""
+def with_advice(refused: program.Refused, graph: dict[str, Any], claims: int, companion: str) -> program.Refused:
+    """The refusal; of a run that is too long its notes go on with what helps, as said by a companion. What `explain` has found isn't looked for again."""
     if refused.status == 6:
-        refused.notes += "".join(f"ptides {companion}: {line}\n" for line in advice(graph))
+        known = re.findall(r"^ *= help: (.*)$", refused.explanation, re.MULTILINE)
+        refused.notes += "".join(f"ptides {companion}: {line}\n" for line in known or advice(graph, claims))
     return refused

@@ -1,7 +1,7 @@
 """Inner signals: what the outputs inside a graph give, by runs of the graph with probes.
 
 What an output gives depends only on the actors from which a way leads to it. So a run that watches some outputs has these actors and
-the probes alone, and there are as many runs as are needed, since a graph has only so many actors, and a run only so many firings.
+the probes alone, and there are as many runs as are needed, since the actors of a graph and the firings of a run are limited.
 """
 from __future__ import annotations
 
@@ -10,8 +10,8 @@ from dataclasses import dataclass, field
 from typing import Any, Callable, Iterable, Mapping, NamedTuple, Optional
 
 from ptides import tables
-from ptides.horizon import MOST_FIRINGS
-from ptides.logs import Entry, entries_of
+from ptides.limits import USUAL_CLAIMS
+from ptides.logs import readings_of
 from ptides.probes import LIMITS, Output, all_outputs, with_probes
 from ptides.program import Refused
 
@@ -45,18 +45,20 @@ class Inner:
         self.notes += [f"not shown, since {why}: {', '.join(names[:MOST_NAMES])}{more}"] if names else []
 
 
-def inner_signals(graph: dict[str, Any], claims: Mapping[str, int], ask: Ask, *, known: Iterable[str] = (), needed: Iterable[str] = ()) -> Inner:
-    """What each output gives, but for actors that are known already. `claims` says how often each actor fires.
+def inner_signals(graph: dict[str, Any], claims: Mapping[str, int], ask: Ask, *, known: Iterable[str] = (), needed: Iterable[str] = (),
+                  most: int = USUAL_CLAIMS) -> Inner:
+    """What each output gives, but for actors that are known already. `claims` says how often each actor fires, and `most` how often those of a
+    platform may.
 
     Each run has the actors that are needed, and those from which a way leads to them, whatever it watches.
     """
     found, known = Inner(), set(known)
-    plan = Plan(graph, claims, needed)
+    plan = Plan(graph, claims, needed, most)
     plan.add(output for output in all_outputs(graph) if output[0] not in known)
     for group in plan.groups:
         part, probes = with_probes(only(graph, group.actors), group.outputs)
         try:
-            found.values.update(watched_values(ask(part), probes)[0])
+            found.values.update(watched_values(ask(part), probes))
         except Refused as refused:
             found.leave_out(group.outputs, f"the run that watches them ends with `{refused.line or f'status {refused.status}'}`")
     found.leave_out(plan.too_long, "a run that watches them would be too long, or its graph too large")
@@ -64,12 +66,16 @@ def inner_signals(graph: dict[str, Any], claims: Mapping[str, int], ask: Ask, *,
     return found
 
 
-def watched_values(output: str, probes: Mapping[str, Output]) -> tuple[dict[Output, list[Value]], list[Entry]]:
-    """What actuators gave, each under the output that it is for, and the log."""
+def watched_values(output: str, probes: Mapping[str, Output]) -> dict[Output, list[Value]]:
+    """What actuators gave, each under the output that it is for. An actuator has an event at each of its claims."""
     table, log = tables.parts_of(output)
-    events, entries = tables.events_of(table), list(entries_of(log))
-    readings = {(entry.actor, entry.time, entry.step): entry.reading for entry in entries if entry.what == "claim" and entry.actor in probes}
-    return {place: [Value(*event, readings.get((name, *event[:2]))) for event in events.get(name, [])] for name, place in probes.items()}, entries
+    events, readings = tables.events_of(table), readings_of(log, probes)
+    found = {}
+    for name, place in probes.items():
+        mine = events.pop(name, [])
+        read = readings.pop(name, []) if log else [None] * len(mine)
+        found[place] = [Value(*event, reading) for event, reading in zip(mine, read)]
+    return found
 
 
 # ---- which outputs are watched together ---------------------------------------------------------------------------------
@@ -110,11 +116,11 @@ class Group:
 class Plan:
     """The outputs in groups, a run for each, and those that are in none."""
 
-    def __init__(self, graph: Mapping[str, Any], claims: Mapping[str, int], needed: Iterable[str]):
+    def __init__(self, graph: Mapping[str, Any], claims: Mapping[str, int], needed: Iterable[str], most: int):
         self.groups: list[Group] = []
         self.too_long: list[Output] = []
         self.too_many: list[Output] = []
-        self.sources, self.claims = sources_of(graph), claims
+        self.sources, self.claims, self.most = sources_of(graph), claims, most
         self.platforms = {actor["name"]: actor["platform"] for actor in graph["actors"]}
         self.wires = Counter(wire[2] for wire in graph["wires"])
         self.needed = set().union(*(self.sources[name] for name in needed))
@@ -146,4 +152,4 @@ class Plan:
         firings: Counter[str] = Counter()
         for name in [*group.actors, *(name for name, _ in group.outputs)]:
             firings[self.platforms[name]] += self.claims.get(name, 0)
-        return max(firings.values(), default=0) <= MOST_FIRINGS
+        return max(firings.values(), default=0) <= self.most

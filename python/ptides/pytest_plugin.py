@@ -15,7 +15,7 @@ from typing import Any, Iterator, Mapping, Optional
 import pytest
 
 import ptides as package
-from ptides import misses, program, tables
+from ptides import limits, misses, program, tables
 from ptides.attempts import Result as Answer, attempts
 from ptides.program import Fault, find_program
 from ptides.records import Event
@@ -34,6 +34,8 @@ def pytest_addoption(parser: pytest.Parser) -> None:
     """The options of the plugin."""
     group = parser.getgroup("ptides", "scenarios of ptides")
     group.addoption("--ptides-update", action="store_true", help="store what the scenarios give, instead of comparing it")
+    group.addoption("--ptides-claims", type=limits.number, default=limits.USUAL_CLAIMS, metavar="N",
+                    help=f"how many claims a platform may make ({limits.USUAL_CLAIMS})")
     group.addoption("--ptides-timeout", type=float, default=600.0, metavar="SECONDS", help="the longest time for one command (600)")
 
 
@@ -57,7 +59,7 @@ class ScenarioFile(pytest.File):
     @cached_property
     def scenario(self) -> Scenario:
         """The scenario of the folder."""
-        return scenario_of(self.path.parent)
+        return scenario_of(self.path.parent, self.config.getoption("--ptides-claims"))
 
     @cached_property
     def answers(self) -> list[Answer]:
@@ -181,8 +183,8 @@ def pytest_terminal_summary(terminalreporter: Any) -> None:
 class Tried:
     """A scenario as a test has it: `result` is what it gives, `expected` what is stored, and `run` runs it with other sensors."""
 
-    def __init__(self, folder: Path):
-        self.scenario = scenario_of(folder)
+    def __init__(self, folder: Path, claims: int):
+        self.scenario = scenario_of(folder, claims)
         if self.scenario.fault:
             raise Fault(self.scenario.fault)
 
@@ -194,7 +196,7 @@ class Tried:
     def run(self, **sensors: Any) -> package.Result:
         """Runs it, with these sensors instead of those in its folder."""
         words = word_meanings(self.scenario.words)
-        options: dict[str, Any] = {"folder": self.folder, "sensors": sensors}
+        options: dict[str, Any] = {"folder": self.folder, "sensors": sensors, "claims": words.claims}
         if words.command == "replay":
             return package.replay(self.folder / words.graph, self.folder / words.other, **options)
         if words.command != "run":
@@ -229,4 +231,4 @@ def scenario(request: pytest.FixtureRequest) -> Tried:
     folder = request.path.parent / getattr(request, "param", ".")
     if not any((folder / name).is_file() for name in ("graph.json", "words")):
         pytest.fail(f"{folder} is no scenario: it has neither graph.json nor words", pytrace=False)
-    return Tried(folder)
+    return Tried(folder, request.config.getoption("--ptides-claims"))

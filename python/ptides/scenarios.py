@@ -13,6 +13,7 @@ from dataclasses import dataclass, field
 from pathlib import Path
 from typing import Iterable, Iterator, NamedTuple, NoReturn, Optional, Sequence
 
+from ptides import limits
 from ptides.attempts import Result, attempts
 from ptides.program import COMMANDS, Fault
 
@@ -111,14 +112,26 @@ def read(path: Path) -> str:
         raise Fault(f"cannot read {path}: {fault.strerror}")
 
 
-def scenario_of(folder: Path) -> Scenario:
-    """The scenario in a folder. One that can't be used is a scenario too, with its fault: the others are run."""
+def scenario_of(folder: Path, claims: int = limits.USUAL_CLAIMS) -> Scenario:
+    """The scenario in a folder. One that can't be used is a scenario too, with its fault: the others are run.
+
+    `claims` is how many claims a platform may make, if its words don't say that.
+    """
     scenario = Scenario(str(folder), folder, ["run", "graph.json"])
     try:
         fill(scenario)
+        allow(scenario, claims)
     except Fault as fault:
         scenario.fault = str(fault)
     return scenario
+
+
+def allow(scenario: Scenario, claims: int) -> None:
+    """Lets each platform make this many claims, unless the words say how many."""
+    says = any(word == "--claims" or word.startswith("--claims=") for word in scenario.words)
+    if scenario.words[0] in limits.COMMANDS and not says:
+        # Behind `--` there are no options.
+        scenario.words[1:1] = limits.words_of(claims)
 
 
 def fill(scenario: Scenario) -> None:
@@ -140,7 +153,7 @@ def fill(scenario: Scenario) -> None:
             scenario.stored[name] = read(folder / name)
 
 
-def scenarios_of(folders: Iterable[str]) -> list[Scenario]:
+def scenarios_of(folders: Iterable[str], claims: int = limits.USUAL_CLAIMS) -> list[Scenario]:
     """The scenarios of these folders and of all below them, each once, in the order of their names."""
     found: dict[Path, None] = {}
     for folder in folders:
@@ -150,7 +163,7 @@ def scenarios_of(folders: Iterable[str]) -> list[Scenario]:
         if not inside:
             raise Fault(f"{folder}: no scenario in it: a scenario is a folder with `words` or `graph.json`")
         found.update(dict.fromkeys(inside))
-    return [scenario_of(folder) for folder in found]
+    return [scenario_of(folder, claims) for folder in found]
 
 
 def first_difference(file: str, expected: str, found: str) -> Optional[Difference]:
@@ -237,6 +250,7 @@ class Meaning(NamedTuple):
     other: str
     clock: str
     workers: Optional[int]
+    claims: Optional[int]
 
 
 class Words(argparse.ArgumentParser):
@@ -250,13 +264,14 @@ def word_meanings(words: Sequence[str]) -> Meaning:
     """What these words ask for.
 
         >>> word_meanings(["run", "../../graph.json", "--clock", "step:0:50"])
-        Meaning(command='run', graph='../../graph.json', other='', clock='step:0:50', workers=None)
+        Meaning(command='run', graph='../../graph.json', other='', clock='step:0:50', workers=None, claims=None)
     """
     parser = Words(add_help=False, allow_abbrev=False)
     parser.add_argument("names", nargs="*")
     parser.add_argument("--log", action="store_true")
     parser.add_argument("--clock", default="paced")
     parser.add_argument("--workers", type=int)
+    parser.add_argument("--claims", type=limits.number)
     found = parser.parse_intermixed_args(list(words))
     command, graph, other, *_ = [*found.names, "", "", ""]
-    return Meaning(command, graph, other, found.clock, found.workers)
+    return Meaning(command, graph, other, found.clock, found.workers, found.claims)

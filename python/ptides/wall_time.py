@@ -172,10 +172,14 @@ def clock_of(stamp: Fraction) -> tuple[str, str]:
     return day, re.split("[Z+-]", rest)[0]
 
 
-def zone_name(stamp: Fraction) -> str:
-    """What the zone of a stamp is called: UTC, Europe/Berlin or +01:00."""
-    offset = text_of(stamp)[19:].lstrip(".0123456789")
-    return getattr(getattr(stamp, "zone", None), "key", None) or offset.replace("Z", "UTC")
+def zone_name(zone: tzinfo) -> str:
+    """What a zone is called: UTC, Europe/Berlin or +01:00.
+
+        >>> zone_name(zone_of("UTC")), zone_name(zone_of("Europe/Berlin")), zone_name(zone_of("+0100"))
+        ('UTC', 'Europe/Berlin', '+01:00')
+    """
+    offset = None if getattr(zone, "key", None) else zone.utcoffset(None)
+    return str(zone) if offset is None else datetime.fromtimestamp(0, timezone(offset)).isoformat()[19:].replace("+00:00", "UTC")
 
 
 def zero_file(sensor_file: Union[str, Path]) -> Path:

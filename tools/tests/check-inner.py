@@ -43,7 +43,7 @@ class Signals(Case):
     def wanted(self, folder: Path) -> dict[probes.Output, list[inner.Value]]:
         """The same by one run of the whole graph with all probes."""
         result = ptides.run(folder, probes=True)
-        return inner.watched_values(result.output, result.probes)[0]
+        return inner.watched_values(result.output, result.probes)
 
     def chain(self, names: str, rows: int) -> Path:
         """A folder with a graph of a sensor and of actors one after the other, the last of which leads nowhere."""

@@ -105,7 +105,7 @@ class Lint(Case):
             done = companion("lint", "graph.json", folder=folder)
             self.assertEqual((done.status, done.notes), (status, (folder / "expected.notes").read_text()))
         done = companion("lint", "graph.json", folder=EXAMPLES / "refused" / "long_run")
-        self.assertIn("what meets at one tag wasn't looked at", done.output)
+        self.assertIn("graph.json: warning: a platform makes 200,002 firings, more than 200,000: with `--claims 200002` the whole run fits; ", done.output)
 
 
 if __name__ == "__main__":

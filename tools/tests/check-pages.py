@@ -95,13 +95,14 @@ class Readme(Case):
                 self.assertTrue(f"(docs/{path.name})" in README.read_text())
 
     def test_limits(self) -> None:
-        """As many actors as the table says can fire for each sample, and no more."""
-        found = re.findall(r"^\| ([^|`]+) \| ([\d,]+) \| ([^|]*\d) \|$", README.read_text(), re.M)
+        """As many actors as the table says can fire for each sample, and no more; and ten actors need the number of claims that it says."""
+        found = re.findall(r"^\| ([^|`]+) \| ([\d,]+) \| ([^|]*\d) \|(?: (\d+))? \|$", README.read_text(), re.M)
         self.assertGreater(len(found), 4)
-        for what, samples, actors in found:
+        for what, samples, actors, claims in found:
             parts = 4 if "four parts" in actors else 1
             with self.subTest(what=what):
                 self.assertEqual(number(actors), MOST_FIRINGS * parts // number(samples))
+                self.assertEqual(int(claims or 0), 10 * number(samples) if 10 * number(samples) > MOST_FIRINGS else 0)
 
 
 if __name__ == "__main__":

@@ -123,6 +123,13 @@ class Recordings(Tables):
         self.rows("candump", "a.log", "--id", "123", "--bytes", "0:1", "--latency", "0", "-o", "speed.csv")
         self.assertFalse((self.folder / "speed.zero").exists())
 
+    def test_folders(self) -> None:
+        """The folder of the rows is made; if it can't be, one line says so."""
+        words = ("--unit", "s", "--latency", "0", "-o")
+        self.assertEqual(self.table("t,v\n5,1\n", *words, "a/b/level.csv").status, 0)
+        self.assertEqual((self.folder / "a" / "b" / "level.csv").read_text(), "time,seen,value\n5000000,5000000,1\n")
+        self.refuses(self.table("t,v\n5,1\n", *words, "t.csv/level.csv"), "cannot make the folder t.csv: File exists")
+
     def test_two_zeros(self) -> None:
         """The sensors of a graph have one zero."""
         graph = {"actors": [{"kind": "sensor", "file": "a.csv"}, {"kind": "sensor", "file": "b.csv"}, {"kind": "add"}]}

@@ -67,7 +67,7 @@ class Report(Case):
         return done, file.read_text() if file.exists() else ""
 
     def long_run(self, count: int, slack: int) -> Path:
-        """A folder with a graph and so many rows."""
+        """A folder with a graph and a number of rows."""
         (self.folder / "graph.json").write_text(json.dumps(graph_of(count * 10_000, slack)))
         rows = (f"{number * 10_000},{number * 10_000 + 150 + number % 7},{(number * number) % 1009}\n" for number in range(count))
         (self.folder / "level.csv").write_text("time,seen,value\n" + "".join(rows))
@@ -183,6 +183,8 @@ class Report(Case):
                 self.assertEqual((done.status, done.notes), (0, ""))
                 self.assertEqual([offset // 3_600_000_000 for _, offset in coded(page)["zero"]["offsets"]], offsets)
                 self.has(page, f"2026-03-29 {until}.000000 (25,200,000,000 us)")
+                zone = {(1,): "+01:00", (0,): "UTC", (1, 2): "Europe/Berlin"}[tuple(offsets)]
+                self.has(page, f"Times are those of a clock on the wall of the zone {zone}; the zero")
         (shift / "graph.json").write_text(json.dumps({**json.loads((shift / "graph.json").read_text()), "until": 172_800_000_000}))
         self.assertEqual(self.report("graph.json", "--zero", "9999-12-30T23:59:59.5Z", folder=shift)[0],
                          (1, "", "ptides report: with the zero 9999-12-30T23:59:59.5Z a time of the run is before the year 1 or after the year 9999\n"))

@@ -117,7 +117,7 @@ class RowValues(Tables):
         (self.folder / "t.csv").write_text("t,v\n" + "".join(f"{stamp},{number / 10}\n" for number, stamp in enumerate(stamps)))
         asked = argparse.Namespace(recording=str(self.folder / "t.csv"), stamp="t", unit="iso", value="v", time=None, where=[], missing=[], preamble=0, skip=0,
                                    delimiter=",", decimal=".", zero=None, zone=None, passed=Counter(), frames=None, first=None, last=None, period=None, latency=0,
-                                   scale=10, shift=0, round=False, take_last=False)
+                                   scale=10, shift=0, round=False, take_last=False, claims=200_000)
         made: list[Any] = []
         new = Fraction.__new__
         with mock.patch.object(Fraction, "__new__", lambda *words, **more: made.append(1) or new(*words, **more)):

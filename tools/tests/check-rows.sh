@@ -228,7 +228,7 @@ check_air() {
     refuses_air "no row" 'there is no row 3: the rows are 1 to 2' "$sent" "$received" --sender 1A0=up --row 3
     refuses "air: no file" 'ptides rows: cannot read none.log: No such file or directory' "$rows" air none.log received.log --sender 1A0=up
     python3 -c 'for n in range(100001): print(f"({n // 1000000 + 1}.{n % 1000000:06}) can0 123#00")' >sent.log
-    refuses "air: too many rows" 'ptides rows: sent.log: 100001 rows, and an air file has at most 100000; cut the logs' "$rows" air sent.log sent.log --sender 123=up
+    refuses "air: too many rows" 'ptides rows: sent.log: 100001 rows, and an air file has at most 100000; cut the logs, or allow them: `--claims 200001`' "$rows" air sent.log sent.log --sender 123=up
 }
 
 check_refusals() {
@@ -266,10 +266,12 @@ check_refusals() {
     refuses_dump "no value" ':2: b12 is no value' '$timescale 1us $end $var wire 8 ! a $end $enddefinitions $end\n#1 b12 !\n'
     refuses_dump "no value of it" ': no value is in it, or none from --from to --to' '$timescale 1us $end $var wire 8 ! a $end $enddefinitions $end\n#1 bx !\n'
     python3 -c 'for n in range(100001): print(f"({n // 1000000 + 1}.{n % 1000000:06}) can0 123#00")' >bad.log
-    refuses "too many rows" 'ptides rows: bad.log:100001: more than 100000 rows; choose a part with --from and --to: --to 99999 takes the first rows that fit; all are 100001 rows, so 2 parts or more' \
+    refuses "too many rows" 'ptides rows: bad.log:100001: more than 100000 rows; choose a part with --from and --to: --to 99999 takes the first rows that fit; all are 100001 rows, so 2 parts or more, or `--claims 200001`' \
         "$rows" "${log[@]}" --latency 0
     "$rows" "${log[@]}" --latency 0 --to 99999 2>/dev/null | wc -l >found
     equal "a part of it" 100001 "$(<found)"
+    "$rows" "${log[@]}" --latency 0 --claims 200001 2>/dev/null | wc -l >found
+    equal "all of it" 100002 "$(<found)"
 }
 
 refuses_log() { # WHAT LINE LOG WORD..

@@ -94,6 +94,7 @@ MISTAKES: dict[str, Callable[[Answer], Answer]] = {
     "an empty file is taken": lambda answer: answer._replace(status=0, notes="") if answer.status == 3 else answer,
     "all is lawful": lambda answer: answer._replace(status=0, output="lawful\n", notes="") if answer.calls("audit") else answer,
     "nothing is lawful": lambda answer: answer._replace(status=10, output="", notes="unlawful: table\n") if answer.calls("audit") else answer,
+    "another number of claims": lambda answer: answer._replace(output=answer.output + "\n") if "--claims" in answer.words and answer.calls("run") else answer,
     "a crash": lambda answer: answer._replace(status=-11, output="", notes="") if answer.words[-1] == "64" else answer,
     "memory": lambda answer: answer._replace(status=9, output="", notes="memory\n") if "machine" in answer.words else answer,
 }

@@ -6,9 +6,9 @@ import subprocess
 from pathlib import Path
 from typing import Iterator
 
-# A point of paper is 1/72 of an inch; a page is looked at with so many pixels for each inch.
+# A point of paper is 1/72 of an inch; a page is looked at with this many pixels for each inch.
 SHARPNESS = 100
-# Below its title a trend is so many points high, without the numbers of its time axis.
+# Below its title a trend is this many points high, without the numbers of its time axis.
 TREND = 66
 # The numbers of a trend's other axis end this many points from the left.
 LEFT = 110

@@ -92,7 +92,7 @@ def ring(work, name, events, count):
 
 
 def sent_later(data, most, order=None, quiet=False):
-    """A log in which each platform sends all its events at the end, at most so many in a turn: so it is lawful as well.
+    """A log in which each platform sends all its events at the end, a limited number of them in a turn: so it is lawful as well.
 
     `order` sorts the messages; with `quiet` a turn in which nothing happens comes between two of these turns.
     """

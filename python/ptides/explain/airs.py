@@ -4,9 +4,10 @@ from __future__ import annotations
 import re
 from typing import Optional
 
+from ptides import limits
 from ptides.companion import read
 from ptides.explain.command_line import at_word, plain_words, read_fault
-from ptides.explain.findings import MOST_READ, Finding, Source, Spot, a, bytes_of, count, draw, listed, near
+from ptides.explain.findings import Finding, Source, Spot, a, count, draw, listed, near, length_of
 from ptides.explain.graph import Graph, checked
 from ptides.explain.json_text import read_json
 from ptides.explain.tables import AIR_COLUMNS, header_help, records, wrong_number
@@ -14,8 +15,9 @@ from ptides.explain.tables import AIR_COLUMNS, header_help, records, wrong_numbe
 class Air:
     """An air file: its records, and what they say of the platforms and links of a graph."""
 
-    def __init__(self, path: str, graph: Graph):
-        self.source, self.graph = Source(path, read(path, MOST_READ).decode("utf-8", errors="replace")), graph
+    def __init__(self, path: str, graph: Graph, claims: int):
+        data = read(path, 2 * limits.file_bytes_limit(claims))
+        self.source, self.graph, self.claims = Source(path, data.decode("utf-8", errors="replace")), graph, claims
         self.rows = list(records(self.source.text))
         self.platforms = [each.text() for each in graph.parts["platform"]]
         self.senders = [start for start, _ in graph.linked]
@@ -38,8 +40,10 @@ class Air:
             label = "this isn't the header" if record else "there is no header"
             return Finding(self.spot(start, end, label), "the line `what,name,value`", [header_help(record, self.source.text, AIR_COLUMNS)])
         if fault == "too many rows":
-            return Finding(self.spot(self.rows[100_001][0][1], self.rows[100_001][-1][2], "row 100,001"), "at most 100,000 rows",
-                           [f"the file has {len(self.rows) - 1:,}: cut the recording"])
+            most = limits.rows_limit(self.claims)
+            record, count_of = self.rows[most + 1], len(self.rows) - 1
+            return Finding(self.spot(record[0][1], record[-1][2], f"row {most + 1:,}"), f"at most {most:,} rows",
+                           [f"the file has {count_of:,}: cut the recording, or allow them: {limits.option_for(limits.claims_for(rows=count_of))}"])
         if fault == "number":
             # The first two columns are names.
             return wrong_number(self.source, self.rows[row][2:], {"value": (0, 10**15)})
@@ -122,12 +126,15 @@ class Air:
 
 def air_fault(graph: Graph, line: str, words: list[str]) -> Optional[Finding]:
     """What is wrong with an air file, or with a message that is late by it."""
-    path = plain_words(words)[2]
+    path, claims = plain_words(words)[2], limits.claims_in(words)
     if line == "read fault: air":
         return read_fault(None, words, path, "", "air file")
     if line == "air: too long":
-        return at_word(words, words.index(path), f"this file has {bytes_of(read(path, MOST_READ))}", "an air file of at most 8,388,608 bytes", "cut the recording")
-    air, found = Air(path, graph), re.fullmatch(r"air: ([a-z ]+?)(?: at row (\d+))?", line)
+        most = limits.file_bytes_limit(claims)
+        length = length_of(path, read(path, most))
+        return at_word(words, words.index(path), f"this file has {length.text}", f"an air file of at most {most:,} bytes",
+                       f"cut the recording, or allow it: {limits.option_for(limits.claims_for(length.rows, length.size))}")
+    air, found = Air(path, graph, claims), re.fullmatch(r"air: ([a-z ]+?)(?: at row (\d+))?", line)
     return air.fault(found[1], int(found[2] or 0)) if found else air.late(line)
 
 
@@ -136,7 +143,7 @@ def past_a_bound(words: list[str], path: str, data: bytes) -> str:
     source, file = Source(path, data.decode("utf-8", errors="replace")), plain_words(words)[2]
     root = read_json(source, data)
     try:
-        spot = None if isinstance(root, Finding) else Air(file, Graph(source, root)).breach()
+        spot = None if isinstance(root, Finding) else Air(file, Graph(source, root), limits.claims_in(words)).breach()
     except (LookupError, ValueError, StopIteration, OSError):
         spot = None
     if not spot:

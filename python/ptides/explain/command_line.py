@@ -6,18 +6,22 @@ import os
 import re
 import shlex
 from pathlib import Path
-from typing import Optional
+from typing import Callable, Optional
 
+from ptides import limits
 from ptides.explain.findings import Finding, Source, Spot, a, near
 from ptides.explain.graph import Graph
 
 CLOCKS = "`paced`, `machine` or `step:START:STEP` in microseconds, as `step:0:1`, START from 0 and STEP from 1, to 10^15"
-COMMANDS = {"run": ["--workers", "--clock", "--log"], "check": [], "meaning": [], "make": ["--workers"], "migrate": [], "slacks": [],
-            "audit": [], "replay": ["--workers", "--log"]}
+COMMANDS = {"run": ["--workers", "--clock", "--log", "--claims"], "check": [], "meaning": ["--claims"], "make": ["--workers"], "migrate": [], "slacks": [],
+            "audit": ["--claims"], "replay": ["--workers", "--log", "--claims"]}
+# Those that have a value.
+VALUED = ("--workers", "--clock", "--claims")
+
 
 def plain_words(words: list[str]) -> list[str]:
     """The words that are no options and no values of options."""
-    values = {index + 1 for index, word in enumerate(words) if word in ("--workers", "--clock")}
+    values = {index + 1 for index, word in enumerate(words) if word in VALUED}
     return [word for index, word in enumerate(words) if index not in values and (word == "-" or not word.startswith("-"))]
 
 
@@ -43,6 +47,12 @@ def is_clock(value: str) -> bool:
     return value in ("paced", "machine") or numbers is not None and all(int(number) <= 10 ** 15 for number in numbers.groups())
 
 
+# What is a value of each option, and how it is said.
+VALUES: dict[str, tuple[Callable[[str], bool], str]] = {
+    "--workers": (lambda value: re.fullmatch("[1-9]|[1-5][0-9]|6[0-4]", value) is not None, "a number from 1 to 64, as 4"),
+    "--clock": (is_clock, CLOCKS), "--claims": (limits.is_number, f"a number from {limits.USUAL_CLAIMS} to {limits.MOST_CLAIMS}, as 4000000")}
+
+
 def usage(words: list[str]) -> Finding:
     """The word that isn't allowed at its place."""
     if words[0] not in COMMANDS:
@@ -57,10 +67,10 @@ def usage(words: list[str]) -> Finding:
             return at_word(words, index, f"`{command}` has no option `{option}`{near(option, allowed)}", options)
         elif option in seen or option == "--log" and equals:
             return at_word(words, index, f"`{option}` is there already" if option in seen else "`--log` takes no value", options)
-        elif option in ("--workers", "--clock"):
+        elif option in VALUED:
             index, value = (index, value) if equals else (index + 1, "".join(words[index + 1:index + 2]))
-            if not (is_clock(value) if option == "--clock" else re.fullmatch("[1-9]|[1-5][0-9]|6[0-4]", value)):
-                wanted = "a number from 1 to 64, as 4" if option == "--workers" else CLOCKS
+            is_value, wanted = VALUES[option]
+            if not is_value(value):
                 return at_word(words, index, f"no value of `{option}`", f"`{option}` takes {wanted}")
         seen.append(option)
         index += 1
@@ -71,7 +81,7 @@ def usage(words: list[str]) -> Finding:
     label = ("a word too many" if len(places) > len(what) else f"{what[len(places)]} is missing" if len(places) < len(what)
              else f"this isn't {what[wrong]}")
     index = len(words) if len(places) < len(what) else places[len(what) if len(places) > len(what) else wrong]
-    return at_word(words, index, label, f"`{command}` takes {' and '.join(what)}, and {'options' if allowed or command != 'audit' else 'no option'}")
+    return at_word(words, index, label, f"`{command}` takes {' and '.join(what)}, and options")
 
 
 def read_fault(graph: Optional[Graph], words: list[str], path: str, sensor: str, what: str = "graph") -> Finding:

@@ -2,10 +2,11 @@
 from __future__ import annotations
 
 import difflib
+import os
 from dataclasses import dataclass, field
-from typing import Iterable, Optional
+from typing import Iterable, NamedTuple, Optional
 
-# More bytes than `ptides` takes of any graph, sensor file or air file.
+# More bytes than `ptides` takes of any graph.
 MOST_READ = 1 << 24
 # Words of other tools for a kind or a block.
 ALIASES = dict(pair.split("=") for pair in """min=least max=greatest minimum=least maximum=greatest average=mean avg=mean clip=clip100
@@ -70,6 +71,20 @@ def report(line: str, finding: Finding) -> str:
     for note in finding.notes:
         lines += [f"note: {note.label}", *draw(note, gutter, "-", "")]
     return "\n".join(lines) + "\n"
+
+
+class Length(NamedTuple):
+    """How long a file is: its bytes, as text too, and about how many rows."""
+    text: str
+    size: int
+    rows: int
+
+
+def length_of(path: str, data: bytes = b"") -> Length:
+    """The length of a file of which these are the first bytes. A device may have no end."""
+    size = os.path.getsize(path) if os.path.isfile(path) else 1 << 62
+    lines = data.count(b"\n") + (not data.endswith(b"\n"))
+    return Length(f"{size:,} bytes" if os.path.isfile(path) else "no end", size, lines * size // max(1, len(data)) - 1)
 
 
 def bytes_of(data: bytes) -> str:

@@ -5,7 +5,7 @@ import json
 import re
 from typing import Optional
 
-from ptides import horizon, misses, program
+from ptides import horizon, limits, misses, program
 from ptides.explain.findings import Finding, count
 from ptides.explain.graph import Change, Graph, check, checked
 from ptides.explain.json_text import Node
@@ -158,11 +158,12 @@ def better_clock(graph: Graph, words: list[str]) -> list[str]:
     return [f"no STEP from this one down to {least + 1} was found to be small enough: a sender needs slack for the visits before it sends; {paced}"]
 
 
-def long(graph: Graph, subject: str) -> Finding:
-    """A run with too many firings: the horizon that fits, and the clocks that make many of them."""
+def long(graph: Graph, subject: str, words: list[str]) -> Finding:
+    """A run with too many firings: the horizon that fits, the claims that it needs, and the clocks that make many of them."""
+    claims = limits.claims_in(words)
     place = next((each for each in graph.parts["platform"] if each.text() == subject), graph.root.get("until"))
     clocks = [each for each in graph.names if graph.kind(each) == "every" and subject in ("meaning", graph.place(each).text())]
     notes = [graph.spot(graph.actor(each).get("period"), f"`{each}` fires once in each period, up to `until`") for each in clocks[:4]]
-    label = f"more than {horizon.MOST_FIRINGS:,} firings {'for each' if subject == 'meaning' else 'on this'} platform"
-    helps = horizon.advice(json.loads(graph.source.text))
-    return graph.found(place, label, f"at most {horizon.MOST_FIRINGS:,} firings a platform", *helps, notes=notes)
+    label = f"more than {claims:,} firings {'for each' if subject == 'meaning' else 'on this'} platform"
+    helps = horizon.advice(json.loads(graph.source.text), claims)
+    return graph.found(place, label, f"at most {claims:,} firings a platform", *helps, notes=notes)

@@ -4,6 +4,7 @@ from __future__ import annotations
 import re
 from typing import Optional
 
+from ptides import limits
 from ptides.explain import graph_form, graph_timing, graph_wiring
 from ptides.explain.airs import air_fault
 from ptides.explain.command_line import read_fault, usage
@@ -45,7 +46,7 @@ def finding_of(line: str, notes: list[str], words: list[str], path: str, data: b
     if line.startswith("air: ") or line == "read fault: air" or re.fullmatch("late .*, air row [0-9]+", line):
         return air_fault(graph, line, words)
     if re.match(r"sensor \w+: |late \w+ row ", line):
-        return sensor_fault(graph, line)
+        return sensor_fault(graph, line, limits.claims_in(words))
     return graph_fault(graph, notes, words, path)
 
 
@@ -60,7 +61,7 @@ def graph_fault(graph: Graph, notes: list[str], words: list[str], path: str) -> 
               ("graph: unfed ", lambda: graph_wiring.unfed(graph, int(line.split()[3]), int(last))),
               ("graph: cycle ", lambda: graph_timing.cycle(graph, line)), ("graph: infeasible ", lambda: graph_timing.infeasible(graph, line)),
               ("graph: ring ", lambda: graph_timing.ring(graph, line)), ("missed ", lambda: graph_timing.missed(graph, notes)),
-              ("late ", lambda: graph_timing.late_message(graph, line, words)), ("long ", lambda: graph_timing.long(graph, last)),
+              ("late ", lambda: graph_timing.late_message(graph, line, words)), ("long ", lambda: graph_timing.long(graph, last, words)),
               ("read fault: sensor ", lambda: read_fault(graph, words, path, last))]
     find = next((find for start, find in others if line.startswith(start)), None)
     return find() if find else None

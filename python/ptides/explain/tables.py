@@ -4,8 +4,9 @@ from __future__ import annotations
 import re
 from typing import Iterator, Optional
 
+from ptides import limits
 from ptides.companion import read
-from ptides.explain.findings import MOST_READ, Finding, Source, Spot, bytes_of, count
+from ptides.explain.findings import Finding, Source, Spot, count, length_of
 from ptides.explain.graph import Graph, checked
 
 # A record: its fields, each with the place at which it starts and ends.
@@ -102,24 +103,27 @@ def late_row(graph: Graph, sensor: str, source: Source, rows: list[Record], line
                    f"`seen` of at most {int(time) + int(bound.value)}", helps, [graph.spot(bound, f"the bound of `{sensor}`")])
 
 
-def sensor_fault(graph: Graph, line: str) -> Optional[Finding]:
+def sensor_fault(graph: Graph, line: str, claims: int) -> Optional[Finding]:
     """A fault of a sensor file, or a row of it that is late."""
     found = re.match(r"sensor (\w+): ([a-z ]+?)(?: at row (\d+))?$|late (\w+) row (\d+),", line)
     sensor, fault, row = found[1] or found[4], found[2] or "late", int(found[3] or found[5] or 0)
     node = graph.actor(sensor).get("file")
-    data = read(node.text(), MOST_READ)
+    most = limits.rows_limit(claims)
+    data = read(node.text(), 2 * limits.file_bytes_limit(claims))
     source = Source(node.text(), data.decode("utf-8", errors="replace"))
     if fault == "too long":
-        return graph.found(node, f"this file has {bytes_of(data)}", "at most 8,388,608 bytes", "record fewer rows, or leave some out")
+        length = length_of(node.text(), data)
+        return graph.found(node, f"this file has {length.text}", f"at most {limits.file_bytes_limit(claims):,} bytes",
+                           f"record fewer rows, or leave some out; or allow it: {limits.option_for(limits.claims_for(length.rows, length.size))}")
     rows = list(records(source.text))
-    record = rows[100_001] if fault == "too many rows" else rows[row] if rows else []
+    record = rows[most + 1] if fault == "too many rows" else rows[row] if rows else []
     start, end = (record[0][1], record[-1][2]) if record else (0, 1)
     commas = "write commas between the fields" if re.search("[;\t]", source.text[start:end]) else ""
     label, expected, better = {
         "header": ("this isn't the header" if rows else "there is no header", "the line `time,seen,value`",
                    header_help(record, source.text, SENSOR_COLUMNS)),
-        "too many rows": ("row 100,001", "at most 100,000 rows", f"the file has {len(rows) - 1:,}, which go in {-(-(len(rows) - 1) // 100_000)} parts: "
-                          "`--from` and `--to` of `rows` take one (docs/RECORDINGS.md, Long recordings)"),
+        "too many rows": (f"row {most + 1:,}", f"at most {most:,} rows", f"the file has {len(rows) - 1:,}, which go in {-(-(len(rows) - 1) // most)} parts: `--from` and "
+                          f"`--to` of `rows` take one (docs/RECORDINGS.md, Long recordings); or allow them: {limits.option_for(limits.claims_for(rows=len(rows) - 1))}"),
         "fields": (f"row {row} has {count(len(record), 'field')}", "three fields: time,seen,value", commas)}.get(fault, ("", "", ""))
     if label:
         return Finding(Spot(source, start, end, label), expected, [better])

@@ -3,10 +3,10 @@ from __future__ import annotations
 
 from typing import NamedTuple
 
+from ptides import limits
 from ptides.program import Fault
 from ptides.recordings.candump import Frame, frames_of, no_frame
-from ptides.recordings.samples import MOST_ROWS, MOST_TIME, Asked, lines_of
-
+from ptides.recordings.samples import MOST_TIME, Asked, lines_of
 
 
 class Transit(NamedTuple):
@@ -75,8 +75,9 @@ def air_rows(asked: Asked, transits: list[Transit]) -> list[str]:
     if len(lags) == 2 and lags[0][0] == lags[1][0]:
         raise Fault(f"--sent-lag and --received-lag both name {lags[0][0]}")
     rows = [f"lag,{platform},{lag}" for platform, lag in lags] + [f"transit,{transit.sender},{transit.time}" for transit in transits]
-    if len(rows) > MOST_ROWS:
-        raise Fault(f"{asked.sent}: {len(rows)} rows, and an air file has at most {MOST_ROWS}; cut the logs")
+    most = limits.rows_limit(asked.claims)
+    if len(rows) > most:
+        raise Fault(f"{asked.sent}: {len(rows)} rows, and an air file has at most {most}; cut the logs, or allow them: {limits.option_for(limits.claims_for(len(rows)))}")
     return rows
 
 

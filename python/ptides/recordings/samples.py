@@ -13,7 +13,7 @@ from ptides.ratios import Ratio
 Asked = argparse.Namespace
 Number = Union[int, Fraction]
 
-MOST_TIME, MOST_SEEN, MOST_ROWS = 10**15, 10**16, 100_000
+MOST_TIME, MOST_SEEN = 10**15, 10**16
 # The microseconds of a unit.
 UNITS = {"s": Fraction(10**6), "ms": Fraction(1000), "us": Fraction(1), "ns": Fraction(1, 1000), "ps": Fraction(1, 10**6), "fs": Fraction(1, 10**9)}
 

@@ -5,11 +5,11 @@ from decimal import Decimal
 from itertools import islice
 from typing import Iterable, NamedTuple, Optional
 
-from ptides import wall_time
+from ptides import limits, wall_time
 from ptides.program import Fault
 from ptides.ratios import Linear
 from ptides.recordings.candump import text_of
-from ptides.recordings.samples import MOST_ROWS, MOST_SEEN, MOST_TIME, Asked, Sample, fault_at, lines_of, place
+from ptides.recordings.samples import MOST_SEEN, MOST_TIME, Asked, Sample, fault_at, lines_of, place
 
 LEAST_VALUE, MOST_VALUE = -(2**63), 2**63 - 1
 
@@ -125,7 +125,7 @@ def proposal(asked: Asked, period: int, signals: list[list[int]]) -> str:
 
 def stamps_of(asked: Asked, samples: Iterable[Sample]) -> list[int]:
     """The stamps of the first samples from --from to --to."""
-    return [sample.seen for sample in islice(samples, MOST_ROWS) if is_taken(asked, sample)]
+    return [sample.seen for sample in islice(samples, limits.rows_limit(asked.claims)) if is_taken(asked, sample)]
 
 
 def better_rule(asked: Asked) -> str:
@@ -140,20 +140,20 @@ def better_rule(asked: Asked) -> str:
 
 def too_many_rows(asked: Asked, rows: list[Row], others: Iterable[Sample]) -> Fault:
     """The fault that there are too many rows: up to where they fit, and in how many parts the recording goes."""
-    last = next((row.seen for row in reversed(rows) if row.seen < rows[-1].seen), 0)
+    last, most = next((row.seen for row in reversed(rows) if row.seen < rows[-1].seen), 0), limits.rows_limit(asked.claims)
     try:
         count = len(rows) + sum(is_taken(asked, sample) for sample in others)
-        parts = f"; all are {count} rows, so {-(-count // MOST_ROWS)} parts or more"
+        parts = f"; all are {count} rows, so {-(-count // most)} parts or more, or {limits.option_for(limits.claims_for(count))}"
     except Fault:
         # What is wrong further on is said of the part in which it is.
         parts = ""
-    return fault_at(asked, rows[-1].line, f"more than {MOST_ROWS} rows; choose a part with --from and --to: --to {last} takes the first rows that fit{parts}")
+    return fault_at(asked, rows[-1].line, f"more than {most} rows; choose a part with --from and --to: --to {last} takes the first rows that fit{parts}")
 
 
 def rows_of(asked: Asked, samples: Iterable[Sample]) -> list[Row]:
     """All rows, from --from to --to. If asked for it the last of several rows of one time is taken."""
     rows: list[Row] = []
-    values, samples = Values(asked), iter(samples)
+    values, samples, most = Values(asked), iter(samples), limits.rows_limit(asked.claims)
     for sample in samples:
         if not is_taken(asked, sample):
             continue
@@ -163,7 +163,7 @@ def rows_of(asked: Asked, samples: Iterable[Sample]) -> list[Row]:
             rows.pop()
         check_row(asked, row, rows[-1] if rows else None)
         rows.append(row)
-        if len(rows) > MOST_ROWS:
+        if len(rows) > most:
             raise too_many_rows(asked, rows, samples)
     if not rows:
         raise Fault(f"{asked.recording}: no value is in it, or none from --from to --to")

@@ -8,6 +8,7 @@ from html import escape
 from pathlib import Path
 from typing import Any, Callable, Iterable, Mapping, Optional
 
+from ptides import limits
 from ptides.companions import program_itself
 from ptides.program import Fault, Refused, find_program
 from ptides.reporting.elements import marked, section, table, tag
@@ -24,7 +25,7 @@ ZeroOf = Callable[[Mapping[str, Any], Path], Optional[Zero]]
 # How long a command of a scenario may take, in seconds.
 LONGEST = 600.0
 NOTHING = "<p>Nothing was missed, late or refused.</p>"
-# So many scenarios that failed are open at first.
+# How many scenarios that failed are open at first.
 MOST_OPEN = 3
 
 
@@ -62,7 +63,7 @@ def asked_of(scenario: Scenario) -> Asked:
     if words.command not in ("run", "replay"):
         raise Fault(f"`{words.command}` is no run, and has no trends")
     graph, air = (plain_path(scenario.folder / word) for word in (words.graph, words.other))
-    return Asked(graph, air if words.command == "replay" else None, words.clock, scenario.folder)
+    return Asked(graph, air if words.command == "replay" else None, words.clock, scenario.folder, claims=limits.claims_of(words.claims))
 
 
 def plain_path(path: Path) -> Path:
@@ -90,9 +91,9 @@ def tried(number: int, name: str, scenario: Scenario, outcome: Outcome) -> Tried
     return made
 
 
-def all_tried(folders: Iterable[str]) -> list[Tried]:
+def all_tried(folders: Iterable[str], claims: int) -> list[Tried]:
     """Runs all scenarios of these folders."""
-    scenarios = scenarios_of(folders)
+    scenarios = scenarios_of(folders, claims)
     jobs = os.cpu_count() or 1
     outcomes = run_here(scenarios, program_itself(find_program()), jobs, LONGEST)
     with ThreadPoolExecutor(jobs) as pool:
@@ -166,9 +167,9 @@ def of_the_graph(all_of_them: list[Tried]) -> str:
     return section("graph", "Graph", graph_part(found[0])) + section("timing", "What may grow", timing_part(found[0]))
 
 
-def campaign_page(folders: list[str], title: str, zero_of: ZeroOf) -> tuple[str, int, list[Gathered]]:
+def campaign_page(folders: list[str], title: str, zero_of: ZeroOf, claims: int) -> tuple[str, int, list[Gathered]]:
     """The page of all scenarios, 1 if one of them didn't give what is stored, and the runs."""
-    all_of_them = all_tried(folders)
+    all_of_them = all_tried(folders, claims)
     failed = [each for each in all_of_them if each.outcome.message()]
     text = f"{len(all_of_them) - len(failed)} of {len(all_of_them)} scenarios gave what is stored"
     head = f'<header><h1>{escape(title)}</h1><div class="verdict{" bad" if failed else ""}"><strong>{text}.</strong></div></header>'
@@ -177,7 +178,7 @@ def campaign_page(folders: list[str], title: str, zero_of: ZeroOf) -> tuple[str,
     body = "".join(details(each, zero_of, most, each.key in opened) for each in all_of_them)
     parts = section("summary", "All scenarios", summary(all_of_them)) + section("missed", "Missed, late or refused", missed_and_late(all_of_them, zero_of) or NOTHING)
     parts += section("each", "Each", body) + of_the_graph(all_of_them)
-    parts += section("what", "What was run", tag("pre", escape("\n".join(["$ ptides bench " + " ".join(folders), "", *versions()]))) + made_by())
+    parts += section("what", "What was run", tag("pre", escape("\n".join([" ".join(["$ ptides bench", *folders, *limits.words_of(claims)]), "", *versions()]))) + made_by())
     return document(title, tag("main", head + parts)), int(bool(failed)), [each.found for each in all_of_them if each.found]
 
 

@@ -6,7 +6,7 @@ from contextlib import nullcontext
 from pathlib import Path
 from typing import Any, Mapping, Optional, Union
 
-from ptides import commands, files
+from ptides import commands, files, limits
 from ptides.graphs import Changes, Graph, Placed, placed
 from ptides.program import Fault
 from ptides.reporting.command import write_page
@@ -32,22 +32,25 @@ def call_of(graph: Graph, file: PathLike, options: Mapping[str, Any]) -> str:
     return f">>> ptides.report({', '.join(words)})"
 
 
-def asked_of(graph: Graph, ready: Placed, air: Any, air_path: Optional[str], clock: commands.Clock, call: str) -> Asked:
+def asked_of(graph: Graph, ready: Placed, air: Any, air_path: Optional[str], how: commands.How, call: str) -> Asked:
     """What was asked for, by the names of the user."""
     name = str(ready.origin) if ready.origin else f"graph ({name_of(graph)})"
     air_file = None if air_path is None else Path(air_path)
-    return Asked(ready.folder / ready.word, air_file, clock, ready.folder, name, "" if air is None else name_of(air), ready.rows_names, call)
+    air_name = "" if air is None else name_of(air)
+    return Asked(ready.folder / ready.word, air_file, how.clock, ready.folder, name, air_name, ready.rows_names, call, how.claims)
 
 
-def write_report(graph: Graph, file: PathLike, air: Any, clock: commands.Clock, changes: Changes, title: str, folder: Optional[PathLike]) -> int:
+def write_report(graph: Graph, file: PathLike, air: Any, how: commands.How, changes: Changes, title: str, folder: Optional[PathLike]) -> int:
     """Runs a graph, or replays it over the recorded network `air`, and writes the page. Gives the status of the run."""
-    if air is not None and clock != "paced":
+    if air is not None and how.clock != "paced":
         raise Fault("a replay takes no clock: its clocks are those of the recording")
-    options = {"air": air, "clock": None if clock == "paced" else clock, "until": changes.until, "zero": changes.zero, "folder": folder, **changes.sensors}
+    claims = None if how.claims == limits.USUAL_CLAIMS else how.claims
+    options = {"air": air, "clock": None if how.clock == "paced" else how.clock, "claims": claims, "until": changes.until, "zero": changes.zero,
+               "folder": folder, **changes.sensors}
     call = call_of(graph, file, {name: value for name, value in options.items() if value is not None})
     network = nullcontext(None) if air is None else files.air_file(air)
     with placed(graph, folder, changes) as ready, network as path:
-        asked = asked_of(graph, ready, air, path, clock, call)
+        asked = asked_of(graph, ready, air, path, how, call)
         found = gather(asked)
         write_page(file, page(found, title or asked.graph_name, zero_as_shown(ready.zero)), found)
     return found.status

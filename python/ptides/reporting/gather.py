@@ -17,8 +17,8 @@ from ptides.results import Result
 def run(asked: Asked) -> Result:
     """Runs what was asked for."""
     if asked.air is not None:
-        return commands.replay(asked.graph, asked.air, folder=asked.folder)
-    return commands.run(asked.graph, clock=asked.clock, folder=asked.folder)
+        return commands.replay(asked.graph, asked.air, claims=asked.claims, folder=asked.folder)
+    return commands.run(asked.graph, clock=asked.clock, claims=asked.claims, folder=asked.folder)
 
 
 def gather(asked: Asked, whole: bool = True) -> Gathered:
@@ -32,7 +32,7 @@ def gather(asked: Asked, whole: bool = True) -> Gathered:
     except Refused as fault:
         if fault.status != 4:
             raise
-        refused, result = fault, commands.meaning(asked.graph, folder=asked.folder)
+        refused, result = fault, commands.meaning(asked.graph, claims=asked.claims, folder=asked.folder)
     else:
         seen = read_log(result.entries())
     found = Gathered(asked, result, refused)
@@ -49,7 +49,7 @@ def add_graph(found: Gathered) -> None:
     graph = found.asked.graph
     found.margins, found.timing = commands.check(graph), commands.timing(graph)
     try:
-        found.remarks = commands.lint(graph, folder=found.asked.folder)
+        found.remarks = commands.lint(graph, claims=found.asked.claims, folder=found.asked.folder)
     except Refused as fault:
         found.notes.append(f"No warnings were looked for: {fault.line}")
     found.picture, note = picture(graph)
@@ -60,10 +60,10 @@ def add_graph(found: Gathered) -> None:
 def watched(found: Gathered, seen: Seen) -> dict[Output, list[Value]]:
     """What each output gives; notes name those that can't be watched. What is given doesn't depend on clocks and the network."""
     def ask(graph: dict[str, Any]) -> str:
-        folder = found.asked.folder
-        return (commands.meaning(graph, folder=folder) if found.refused else commands.run(graph, log=False, folder=folder)).output
+        how: dict[str, Any] = {"claims": found.asked.claims, "folder": found.asked.folder}
+        return (commands.meaning(graph, **how) if found.refused else commands.run(graph, log=False, **how)).output
 
     # The rows of sensors are in the log.
-    inner = inner_signals(found.graph, seen.claims, ask, known=seen.rows)
+    inner = inner_signals(found.graph, seen.claims, ask, known=seen.rows, most=found.asked.claims)
     found.notes += [f"{note[0].upper()}{note[1:]}." for note in inner.notes]
     return inner.values

@@ -5,7 +5,7 @@ from dataclasses import dataclass, field
 from pathlib import Path
 from typing import Any, Mapping, NamedTuple, Optional
 
-from ptides import commands
+from ptides import commands, limits
 from ptides.program import Refused
 from ptides.reporting.series import Signal
 from ptides.results import Result
@@ -24,6 +24,7 @@ class Asked(NamedTuple):
     rows_names: Mapping[str, str] = {}
     # How the user asked for it, if not by words for the program.
     call: str = ""
+    claims: int = limits.USUAL_CLAIMS
 
     @property
     def graph_name(self) -> str:
@@ -34,7 +35,7 @@ class Asked(NamedTuple):
         """What was asked for, as a line."""
         options = commands.options_of(self.clock, None)
         words = ["run", self.graph_name, *options] if self.air is None else ["replay", self.graph_name, self.air_name or str(self.air)]
-        return self.call or f"$ {' '.join(['ptides', *words])}"
+        return self.call or f"$ {' '.join(['ptides', *words, *limits.words_of(self.claims)])}"
 
 
 class File(NamedTuple):

@@ -16,6 +16,7 @@ from ptides.reporting.elements import marked, section, table, tag
 from ptides.reporting.gathered import Gathered
 from ptides.reporting.series import Signal, fitted
 from ptides.reporting.stamps import Zero
+from ptides.wall_time import zone_name
 
 # Where Debian's libjs-dygraphs is, with its licence.
 DYGRAPHS, LICENCE = "/usr/share/javascript/dygraphs", "/usr/share/doc/libjs-dygraphs/copyright"
@@ -79,7 +80,7 @@ class Wall:
         """What times are, in a sentence."""
         if self.zero is None:
             return "Times are seconds from 0, the zero of the sensor files."
-        zone = f"of the zone {self.zero.zone}" if self.zero.zone else "of a zone that isn't stated"
+        zone = f"of the zone {zone_name(self.zero.zone)}" if self.zero.zone else "of a zone that isn't stated"
         return f"Times are those of a clock on the wall {zone}; the zero of the sensor files is {self.zero.text}."
 
 

@@ -72,7 +72,7 @@ def after_coded(after: Sequence[Optional[int]]) -> Any:
 
 
 def outline(values: Sequence[int], most: int) -> list[int]:
-    """The numbers of at most so many events that have the same outline: of equal parts the first, the least, the greatest, the last."""
+    """The numbers of at most `most` events that have the same outline: of equal parts the first, the least, the greatest, the last."""
     count = len(values)
     if count <= most:
         return list(range(count))
@@ -86,7 +86,7 @@ def outline(values: Sequence[int], most: int) -> list[int]:
 
 
 def coded(signal: Signal, most: int) -> dict[str, Any]:
-    """A signal as report.js reads it, with at most so many events; those that were missed or late stay, up to as many again."""
+    """A signal as report.js reads it, with at most `most` events; those that were missed or late stay, up to as many again."""
     kept = outline(signal.values, most)
     marked = [*signal.missed, *signal.late]
     if len(kept) < len(signal.values):
@@ -109,7 +109,7 @@ def coded(signal: Signal, most: int) -> dict[str, Any]:
 
 
 def fitted(signals: Sequence[Signal], most_bytes: int) -> tuple[str, int]:
-    """The signals as JSON of at most so many bytes, if that can be; and how many of them are outlines."""
+    """The signals as JSON of at most `most_bytes` bytes, if that can be; and how many of them are outlines."""
     most = max((len(signal.values) for signal in signals), default=0)
     while True:
         found = [coded(signal, most) for signal in signals]

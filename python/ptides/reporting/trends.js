@@ -1,7 +1,7 @@
 // Draws a trend with dygraphs, on the screen and on paper. signals.js comes before it.
 "use strict";
 
-// A trend shows single events if there is room for them: so many pixels for each.
+// A trend shows single events if there is room for them: this many pixels for each.
 const PIXELS_AN_EVENT = 5;
 // How wide a trend is on a landscape page of A4 or letter, and how high on both paper and screen, in pixels.
 const PAPER = 960, HEIGHT = 110;

@@ -8,25 +8,27 @@ from fractions import Fraction
 from functools import cached_property
 from typing import Any, Iterator, Optional
 
-from ptides import probes, program
+from ptides import limits, probes, program
 from ptides.inner import Value, inner_signals, watched_values
-from ptides.logs import Entry
+from ptides.logs import Entry, entries_of
 from ptides.misses import Miss, misses_of
 from ptides.probes import Output
+from ptides.tables import parts_of
 
 
 @dataclass
 class Command:
-    """What is run: the words before and after the graph, and the text of the graph."""
+    """What is run: the words before and after the graph, the text of the graph, and how many claims a platform may make."""
 
     text: str
     words: list[str] = field(default_factory=lambda: ["run"])
     rest: list[str] = field(default_factory=list)
     own_clock: bool = False
+    claims: int = limits.USUAL_CLAIMS
 
     def run(self, text: str) -> program.Done:
         """Runs this command on the text of a graph, in the current folder; a run that doesn't end raises `Refused`."""
-        return program.ask([*self.words, "/dev/stdin", *self.rest, "--log"], accepted=(0, 5), given=text)
+        return program.ask([*self.words, "/dev/stdin", *self.rest, *limits.words_of(self.claims), "--log"], accepted=(0, 5), given=text)
 
 
 @dataclass
@@ -81,9 +83,8 @@ class Recording:
 def take(recording: Recording, done: program.Done, outputs: dict[str, Output]) -> None:
     """Takes what a run gave as the recording; the entries of probes are left out."""
     actuators = {actor["name"]: (actor["name"], 0) for actor in recording.actors() if actor["kind"] == "actuator"}
-    values, entries = watched_values(done.output, {**actuators, **outputs})
-    recording.values.update(values)
-    recording.entries = [entry for entry in entries if entry.actor not in outputs]
+    recording.values.update(watched_values(done.output, {**actuators, **outputs}))
+    recording.entries = [entry for entry in entries_of(parts_of(done.output)[1]) if entry.actor not in outputs]
     recording.misses = misses_of(done.notes)
     for entry in recording.entries:
         if entry.what == "sent":
@@ -143,6 +144,6 @@ def add_inner(command: Command, recording: Recording) -> list[str]:
     claims = Counter(entry.actor for entry in recording.entries if entry.what == "claim")
     # The file of a network has all links.
     needed = [link["to"] for link in recording.graph["links"] if command.words[0] == "replay"]
-    found = inner_signals(recording.graph, claims, lambda graph: command.run(text_of(graph)).output, needed=needed)
+    found = inner_signals(recording.graph, claims, lambda graph: command.run(text_of(graph)).output, needed=needed, most=command.claims)
     recording.values.update(found.values)
     return found.notes

@@ -10,7 +10,7 @@ from ptides.probes import outputs_of
 from ptides.waves.drawing import HEIGHT, SIGN, SMALL_SIGN, STYLE, TOP, WIDTH, Labels, Scale, deadline, line, miss
 from ptides.waves.recording import Recording
 
-# Firings nearer to each other than this many points, at least so many of them, become a band.
+# Firings nearer to each other than `NEAR` points, at least `CROWD` of them, become a band.
 NEAR, CROWD = 4, 6
 # How many firings are drawn singly, on one line and on all, and how many points of bands: so a picture has less than 2 MB.
 MOST_ON_A_LINE, MOST_SINGLE, MOST_COLUMNS = 120, 3000, 60_000
@@ -181,7 +181,7 @@ class Picture:
         yield f'<text class="small" x="10" y="{self.top - 12 - 10 * (zero is not None)}">microseconds</text>'
         if zero is not None:
             first = zero.after(self.scale.first)
-            yield f'<text class="small" x="10" y="{self.top - 12}">{wall_time.clock_of(first)[0]}, {wall_time.zone_name(first)}</text>'
+            yield f'<text class="small" x="10" y="{self.top - 12}">{wall_time.clock_of(first)[0]}, {wall_time.zone_name(first.zone)}</text>'
 
     def messages(self) -> Iterator[str]:
         """A dashed line for each message, from the reading at which it was sent to the one at which it was taken; near ones are one."""

@@ -4,10 +4,16 @@ from __future__ import annotations
 import math
 import os
 from dataclasses import dataclass
+from heapq import merge
+from itertools import islice
+from operator import itemgetter
 from typing import Iterator, Optional
 
 from ptides import wall_time
 from ptides.waves.recording import Recording
+
+# How many lines are joined at a time.
+BLOCK = 1 << 17
 
 
 @dataclass
@@ -21,6 +27,8 @@ class Signal:
 
     def part(self, first: Optional[int], last: Optional[int]) -> "Signal":
         """The changes from one time to another; the value before them is the last one before."""
+        if first is None and last is None:
+            return self
         earlier = [value for stamp, value in self.changes if first is not None and stamp < first]
         inside = [(stamp, value) for stamp, value in self.changes if (first is None or stamp >= first) and (last is None or stamp <= last)]
         return Signal(self.path, inside, self.kind, earlier[-1] if earlier else self.before)
@@ -83,27 +91,36 @@ def bits(value: Optional[int]) -> str:
     return "bx" if value is None else f"b{value & (2**64 - 1):b}"
 
 
-def vcd_text(recording: Recording, first: Optional[int] = None, last: Optional[int] = None) -> str:
-    """The signals as a value change dump. Of several values at one time, steps of one tag, the last stays."""
+def numbered(number: int, signal: Signal) -> Iterator[tuple[int, int, int, Optional[int]]]:
+    """The changes of a signal in the order of time, each with the number of the signal and its own."""
+    changes = sorted(signal.changes, key=itemgetter(0))
+    return ((stamp, number, order, value) for order, (stamp, value) in enumerate(changes))
+
+
+def vcd_lines(recording: Recording, first: Optional[int], last: Optional[int]) -> Iterator[str]:
+    """The lines of a value change dump."""
     signals, now = signals_of(recording, first, last), first or 0
     zero = [] if recording.zero is None else [f"$comment 0 is {wall_time.text_of(recording.zero)} $end"]
-    lines = ["$version ptides wave $end", *zero, "$timescale 1 us $end", *scopes(signals), "$enddefinitions $end", f"#{now}", "$dumpvars"]
-    lines += [f"{bits(signal.before)} {identifier(number)}" for number, signal in enumerate(signals) if signal.kind != "event"]
-    lines.append("$end")
-    changes = [
-        (stamp, number, order, value)
-        for number, signal in enumerate(signals)
-        for order, (stamp, value) in enumerate(signal.changes)
-    ]
-    begun = now
-    for stamp, number, _, value in sorted(changes):
+    yield from ["$version ptides wave $end", *zero, "$timescale 1 us $end", *scopes(signals), "$enddefinitions $end", f"#{now}", "$dumpvars"]
+    yield from (f"{bits(signal.before)} {identifier(number)}" for number, signal in enumerate(signals) if signal.kind != "event")
+    yield "$end"
+    begun, names = now, [("1" if signal.kind == "event" else " ") + identifier(number) for number, signal in enumerate(signals)]
+    for stamp, number, _, value in merge(*(numbered(number, signal) for number, signal in enumerate(signals))):
         if stamp != now:
             now = stamp
-            lines.append(f"#{now}")
-        event = signals[number].kind == "event"
-        lines.append(f"1{identifier(number)}" if event else f"{bits(value)} {identifier(number)}")
-    lines.append(f"#{now + (now - begun) // 20 + 1 if last is None else max(last, now + 1)}")
-    return "\n".join(lines) + "\n"
+            yield f"#{now}"
+        name = names[number]
+        yield name if name[0] == "1" else bits(value) + name
+    yield f"#{now + (now - begun) // 20 + 1 if last is None else max(last, now + 1)}"
+
+
+def vcd_text(recording: Recording, first: Optional[int] = None, last: Optional[int] = None) -> str:
+    """The signals as a value change dump. Of several values at one time, steps of one tag, the last stays."""
+    lines, blocks = vcd_lines(recording, first, last), []
+    # A list of all lines would take several times as much memory as the text.
+    while block := list(islice(lines, BLOCK)):
+        blocks.append("\n".join(block) + "\n")
+    return "".join(blocks)
 
 
 GTKW_SIGNED, GTKW_PLAIN, GTKW_COMMENT, GTKW_STEPS, GTKW_HIGHER = "@420", "@28", "@200", "@88420", "@20000"
@@ -113,11 +130,11 @@ TITLES = {"events": "time of events", "seen": "rows as seen", "fired": "as acted
 def gtkw_text(recording: Recording, vcd: str, first: Optional[int] = None, last: Optional[int] = None) -> str:
     """A view for GTKWave: events of each platform, rows as they were seen, actuators as they acted, and what was missed."""
     signals = signals_of(recording, first, last)
-    changes = [stamp for signal in signals for stamp, _ in signal.changes]
+    found = [signal.changes for signal in signals if signal.changes]
     # The view begins with the first change: before it nothing is known.
-    start = min(changes, default=0) if first is None else first
+    start = min((min(stamp for stamp, _ in changes) for changes in found), default=0) if first is None else first
     # The zoom is how often the time that 200 points show was halved; some 720 points show the waves.
-    end = max(changes, default=start) if last is None else last
+    end = max((max(stamp for stamp, _ in changes) for changes in found), default=start) if last is None else last
     zoom = -math.log2(((end - start) * 1.05 + 1) / 3.6)
     lines = ["[*] a view of GTKWave, written by ptides wave", f'[dumpfile] "{vcd}"', f"[timestart] {start}", "[size] 1280 800", "[pos] -1 -1"]
     lines += [f"*{zoom:.6f} {start}" + " -1" * 27, "[treeopen] events.", "[sst_width] 150", "[signals_width] 260", "[sst_expanded] 1"]
