@@ -1,5 +1,5 @@
 #!/usr/bin/env python3
-"""Checks `--claims N` of the program and of the companions: without it, and with the usual number, all is the same; with a greater one longer runs and files are
+"""Checks `--claims N` of the program, of the companions and of the package: without it, and with the usual number, all is the same; with a greater one longer runs and files are
 taken; other numbers, commands and places are refused with the usage line, which doesn't name it."""
 from __future__ import annotations
 
@@ -8,16 +8,18 @@ import shutil
 import sys
 import tempfile
 from pathlib import Path
-from typing import Any, Iterator
+from typing import Any, Callable, Iterator
 
-from counted import GRAPHS, REFUSED, TOP, Case, companion, copied, example_words, main, make_files, ptides
+from counted import EXAMPLES, GRAPHS, REFUSED, TOP, Case, companion, copied, example_words, main, make_files, ptides
 
 sys.path.insert(0, str(TOP / "python"))
+import ptides as package  # noqa: E402
 from ptides import limits  # noqa: E402
 from ptides.program import Fault  # noqa: E402
 from ptides.scenarios import scenario_of, word_meanings  # noqa: E402
 
 COMMANDS = ("run", "meaning", "replay", "audit")
+GOVERNOR = EXAMPLES / "governor"
 
 
 class InFolder(Case):
@@ -193,6 +195,45 @@ class Companions(InFolder):
         done = companion("lint", "graph.json", folder=self.folder)
         self.assertIn("`s.csv` has 150,000 rows, and a file may have 100,000 rows and 8,388,608 bytes: `run` takes it with `--claims 200001`\n", done.output)
         self.assertNotIn("firings", done.output)
+
+
+class Package(InFolder):
+    """`claims=` of `import ptides`."""
+
+    def setUp(self) -> None:
+        super().setUp()
+        self.air = self.folder / "air.csv"
+        self.air.write_text("what,name,value\n")
+
+    def refusal(self, call: Callable[[], Any]) -> package.Refused:
+        """The refusal of a call."""
+        with self.assertRaises(package.Refused) as caught:
+            call()
+        return caught.exception
+
+    def test_longer_runs(self) -> None:
+        """A longer run with `claims=`; an audit of its result knows the number."""
+        graph = self.ticking(110_000)
+        for call in (package.run, package.meaning, lambda graph, **more: package.replay(graph, self.air, **more)):
+            self.assertEqual(self.refusal(lambda: call(graph, claims=219_999)).status, 6)
+            result = call(graph, claims=220_000)
+            self.assertEqual((len(result.events["out"]), result.claims), (110_000, 220_000))
+        self.assertIn("with `--claims 220000` the whole run fits", str(self.refusal(lambda: package.run(graph))))
+        result = package.run(graph, claims=220_000)
+        self.assertTrue(package.audit(graph, result).lawful)
+        self.assertFalse(package.audit(graph, result, claims=200_000).lawful)
+        self.assertEqual(package.run(GOVERNOR).claims, 200_000)
+        self.assertEqual([len(package.lint(graph)), len(package.lint(graph, claims=220_000))], [1, 0])
+
+    def test_other_numbers(self) -> None:
+        """What is no such number is one line, in each call."""
+        result = package.run(GOVERNOR)
+        network = EXAMPLES / "network"
+        for call in (lambda: package.run(GOVERNOR, claims=199_999), lambda: package.meaning(GOVERNOR, claims=199_999), lambda: package.lint(GOVERNOR, claims=199_999),
+                     lambda: package.replay(network, network / "air.csv", claims=199_999), lambda: package.audit(GOVERNOR, result, claims=199_999),
+                     lambda: package.report(GOVERNOR, self.folder / "page.html", claims=199_999)):
+            with self.assertRaisesRegex(package.Fault, "^claims: 199999 is not from 200,000 to 100,000,000$"):
+                call()
 
 
 if __name__ == "__main__":

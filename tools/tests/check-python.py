@@ -72,40 +72,6 @@ class Plain(Case):
         self.assertNotEqual(ptides.run(GOVERNOR, clock=("step", 0, 7)).log, ptides.run(GOVERNOR).log)
         self.assertEqual(graph, json.loads((GOVERNOR / "graph.json").read_text()))
 
-    def test_claims(self) -> None:
-        """A longer run with `claims=`; an audit of its result knows the number. What is no such number is one line."""
-        actors = [{"name": "e", "platform": "p", "kind": "every", "start": 0, "period": 10}, {"name": "out", "platform": "p", "kind": "actuator", "slack": 20}]
-        graph = {"ptides": 1, "until": 1_099_999, "clock_error": 0, "platforms": ["p"], "actors": actors, "wires": [["e", 0, "out", 0]], "links": []}
-        air = self.folder / "air.csv"
-        air.write_text("what,name,value\n")
-        for call in (ptides.run, ptides.meaning, lambda graph, **more: ptides.replay(graph, air, **more)):
-            with self.assertRaises(ptides.Refused) as caught:
-                call(graph, claims=219_999)
-            self.assertEqual(caught.exception.status, 6)
-            result = call(graph, claims=220_000)
-            self.assertEqual((len(result.events["out"]), result.claims), (110_000, 220_000))
-        self.assertIn("with `--claims 220000` the whole run fits", str(caught.exception) + str(self.refusal(graph)))
-        result = ptides.run(graph, claims=220_000)
-        self.assertTrue(ptides.audit(graph, result).lawful)
-        self.assertFalse(ptides.audit(graph, result, claims=200_000).lawful)
-        self.assertEqual(ptides.run(GOVERNOR).claims, 200_000)
-        self.assertEqual(len(ptides.lint(graph)), 1)
-        self.assertEqual(len(ptides.lint(graph, claims=220_000)), 0)
-        for call in (lambda: ptides.run(GOVERNOR, claims=199_999), lambda: ptides.meaning(GOVERNOR, claims=199_999), lambda: ptides.lint(GOVERNOR, claims=199_999),
-                     lambda: ptides.replay(EXAMPLES / "network", EXAMPLES / "network" / "air.csv", claims=199_999), lambda: ptides.audit(GOVERNOR, result, claims=199_999),
-                     lambda: ptides.report(GOVERNOR, self.folder / "page.html", claims=199_999)):
-            with self.assertRaisesRegex(ptides.Fault, "^claims: 199999 is not from 200,000 to 100,000,000$"):
-                call()
-
-    @staticmethod
-    def refusal(graph: dict) -> ptides.Refused:
-        """The refusal of a run."""
-        try:
-            ptides.run(graph)
-        except ptides.Refused as refused:
-            return refused
-        raise AssertionError("it isn't refused")
-
     def test_sensor_paths(self) -> None:
         """A sensor may be another file, of any name; one that isn't named stays as it is."""
         file = self.folder / "a name with spaces, ünd more.csv"
