@@ -14,6 +14,7 @@
 mod ahead;
 mod asked;
 mod claiming;
+mod cut;
 mod early;
 mod front;
 mod order;

@@ -22,8 +22,8 @@ use Rattle.pt_turn.specs.declared.state.fields.Fields.{Fields}
 use Rattle.pt_turn.specs.Fields.State.{IsSound, busy_in}
 use Rattle.pt_queue.specs.Events.{waiting_in}
 use Rattle.pt_queue.specs.declared.waiting.Waiting.{Waiting}
-use Rattle.pt_turn.specs.Claims.Fronts.{AreAllAhead, AreFirst, AreFront, IsAhead, IsAmong, IsInOrder, IsInserted, IsSafeUnit, IsTaken, IsNextSafe, StandsBefore, one_of}
-use Rattle.pt_turn.proofs.Claims.Ordering.{ahead_or, ahead_trans, cut_off, each_drop, each_insert, each_map, each_take, in_drop, in_insert, itself_in, order_insert, order_take, some_behind, take_insert}
+use Rattle.pt_turn.specs.Claims.Fronts.{AreAllAhead, AreFirst, AreFront, IsAhead, IsAmong, IsCutOff, IsInOrder, IsInserted, IsSafeUnit, IsTaken, IsNextSafe, StandsBefore, one_of}
+use Rattle.pt_turn.proofs.Claims.Ordering.{ahead_or, ahead_past, ahead_trans, cut_off, each_drop, each_insert, each_map, each_take, in_drop, in_insert, itself_in, order_insert, order_take, some_behind, take_insert}
 use Rattle.pt_turn.proofs.Claims.SafeTags.{same_tags}
 
 -- a unit before the next group stands before this one, or is this one
@@ -64,22 +64,29 @@ behind_it c a k (d ∷ cs) is h n = (
 either_place : (p : ℕ) → (p < 64) ⊎ (64 ≤ p)
 either_place p = grind arith
 
+kept_in : (cut : Option Waiting) (u : Unit) (t : Tag) (cs : List Waiting) → IsIn (record { unit = u; tag = t }) cs ⊎ AreAllAhead (record { unit = u; tag = t }) cs → IsAmong cut u t cs
+kept_in cut u t cs h = ⊎_elim (λ (m : IsIn (record { unit = u; tag = t }) cs). inl m) (λ (full : AreAllAhead (record { unit = u; tag = t }) cs). inr (inl full)) h
+
 -- a safe unit was put among those that come first
-pub first_put : (g : Graph) (waits : Values) (busy : Unit → Option Task) (r a k : ℕ) (tag : Tag) (old new : List Waiting) → AreFirst g waits busy r a k old → IsUnit g (record { actor = a; group = k }) → IsSafe g waits busy r (record { actor = a; group = k }) tag →
-    IsInserted (record { unit = record { actor = a; group = k }; tag = tag }) old new → AreFirst g waits busy r a (k + 1) new
-first_put g waits busy r a k tag old new first unit safe put = subst (AreFirst g waits busy r a (k + 1)) (sym put.is) (record {
+pub first_put : (cut : Option Waiting) (g : Graph) (waits : Values) (busy : Unit → Option Task) (r a k : ℕ) (tag : Tag) (old new : List Waiting) → AreFirst cut g waits busy r a k old → IsUnit g (record { actor = a; group = k }) → IsSafe g waits busy r (record { actor = a; group = k }) tag → (IsCutOff cut (record { unit = record { actor = a; group = k }; tag = tag }) → ⊥) →
+    IsInserted (record { unit = record { actor = a; group = k }; tag = tag }) old new → AreFirst cut g waits busy r a (k + 1) new
+first_put cut g waits busy r a k tag old new first unit safe on put = subst (AreFirst cut g waits busy r a (k + 1)) (sym put.is) (record {
   in_order = order_take 64 (insert old put.place c) order;
   safe = each_take (IsSafeUnit g waits busy r) 64 (insert old put.place c) (each_insert (IsSafeUnit g waits busy r) old put.place c first.safe (record { is_unit = unit; safe = safe }));
   stand = each_take (λ (d : Waiting). StandsBefore d.unit a (k + 1)) 64 (insert old put.place c) (each_insert (λ (d : Waiting). StandsBefore d.unit a (k + 1)) old put.place c (each_map (λ (d : Waiting). StandsBefore d.unit a k) (λ (d : Waiting). StandsBefore d.unit a (k + 1)) old (λ d h. stands_next d.unit a k h) first.stand) (inr (refl, omega arith)));
+  within = each_take (λ (d : Waiting). IsCutOff cut d → ⊥) 64 (insert old put.place c) (each_insert (λ (d : Waiting). IsCutOff cut d → ⊥) old put.place c first.within on);
   among = λ u t own stands other. ⊎_elim
       (λ (b : StandsBefore u a k). ⊎_elim
-      (λ (m : IsIn (record { unit = u; tag = t }) old). cut_off (record { unit = u; tag = t }) 64 (insert old put.place c) order (in_insert (record { unit = u; tag = t }) old put.place c m))
-      (λ (full : (64 ≤ length old) × Each (λ (d : Waiting). IsAhead d (record { unit = u; tag = t })) old). inr (still_full full.0, still_ahead (record { unit = u; tag = t }) full.0 full.1))
+      (λ (m : IsIn (record { unit = u; tag = t }) old). kept_in cut u t (take 64 (insert old put.place c)) (cut_off (record { unit = u; tag = t }) 64 (insert old put.place c) order (in_insert (record { unit = u; tag = t }) old put.place c m)))
+      (λ (rest : AreAllAhead (record { unit = u; tag = t }) old ⊎ IsCutOff cut (record { unit = u; tag = t })). ⊎_elim
+      (λ (full : AreAllAhead (record { unit = u; tag = t }) old). inr (inl (still_full full.0, still_ahead (record { unit = u; tag = t }) full.0 full.1)))
+      (λ (off : IsCutOff cut (record { unit = u; tag = t })). inr (inr off))
+      rest)
       (first.among u t own b other))
       (λ (e : u ≡ record { actor = a; group = k }).
       let at : t ≡ tag = one_tag g waits busy r (record { actor = a; group = k }) u tag t safe e other in
-      subst (λ z. IsAmong z t (take 64 (insert old put.place c))) (sym e) (subst (λ z. IsAmong (record { actor = a; group = k }) z (take 64 (insert old put.place c))) (sym at)
-      (cut_off c 64 (insert old put.place c) order (itself_in old put.place c))))
+      subst (λ z. IsAmong cut z t (take 64 (insert old put.place c))) (sym e) (subst (λ z. IsAmong cut (record { actor = a; group = k }) z (take 64 (insert old put.place c))) (sym at)
+      (kept_in cut (record { actor = a; group = k }) tag (take 64 (insert old put.place c)) (cut_off c 64 (insert old put.place c) order (itself_in old put.place c)))))
       (this_or u a k stands);
 })
   where
@@ -105,11 +112,12 @@ first_put g waits busy r a k tag old new first unit safe put = subst (AreFirst g
         (either_place put.place)
 
 -- a unit that isn't safe changes nothing
-pub first_skip : (g : Graph) (waits : Values) (busy : Unit → Option Task) (r a k : ℕ) (cs : List Waiting) → AreFirst g waits busy r a k cs → ((t : Tag) → IsSafe g waits busy r (record { actor = a; group = k }) t → ⊥) → AreFirst g waits busy r a (k + 1) cs
-first_skip g waits busy r a k cs first none = record {
+pub first_skip : (cut : Option Waiting) (g : Graph) (waits : Values) (busy : Unit → Option Task) (r a k : ℕ) (cs : List Waiting) → AreFirst cut g waits busy r a k cs → ((t : Tag) → IsSafe g waits busy r (record { actor = a; group = k }) t → ⊥) → AreFirst cut g waits busy r a (k + 1) cs
+first_skip cut g waits busy r a k cs first none = record {
   in_order = first.in_order;
   safe = first.safe;
   stand = each_map (λ (d : Waiting). StandsBefore d.unit a k) (λ (d : Waiting). StandsBefore d.unit a (k + 1)) cs (λ d h. stands_next d.unit a k h) first.stand;
+  within = first.within;
   among = λ u t own stands safe. ⊎_elim
       (λ (b : StandsBefore u a k). first.among u t own b safe)
       (λ (e : u ≡ record { actor = a; group = k }). absurd (none t (subst (λ z. IsSafe g waits busy r z t) e safe)))
@@ -117,17 +125,34 @@ first_skip g waits busy r a k cs first none = record {
 }
 
 -- a unit behind the first 64 changes nothing, safe or not
-pub first_past : (g : Graph) (waits : Values) (busy : Unit → Option Task) (r a k : ℕ) (tag : Tag) (cs : List Waiting) → AreFirst g waits busy r a k cs → AreAllAhead (record { unit = record { actor = a; group = k }; tag = tag }) cs
-    → ((t : Tag) → IsSafe g waits busy r (record { actor = a; group = k }) t → t ≡ tag) → AreFirst g waits busy r a (k + 1) cs
-first_past g waits busy r a k tag cs first ahead same = record {
+pub first_past : (cut : Option Waiting) (g : Graph) (waits : Values) (busy : Unit → Option Task) (r a k : ℕ) (tag : Tag) (cs : List Waiting) → AreFirst cut g waits busy r a k cs → AreAllAhead (record { unit = record { actor = a; group = k }; tag = tag }) cs
+    → ((t : Tag) → IsSafe g waits busy r (record { actor = a; group = k }) t → t ≡ tag) → AreFirst cut g waits busy r a (k + 1) cs
+first_past cut g waits busy r a k tag cs first ahead same = record {
   in_order = first.in_order;
   safe = first.safe;
   stand = each_map (λ (d : Waiting). StandsBefore d.unit a k) (λ (d : Waiting). StandsBefore d.unit a (k + 1)) cs (λ d h. stands_next d.unit a k h) first.stand;
+  within = first.within;
   among = λ u t own stands safe. ⊎_elim
       (λ (b : StandsBefore u a k). first.among u t own b safe)
       (λ (e : u ≡ record { actor = a; group = k }).
       let at : t ≡ tag = same t (subst (λ z. IsSafe g waits busy r z t) e safe) in
-      inr (subst (λ (d : Waiting). AreAllAhead d cs) (λ i. record { unit = sym e i; tag = sym at i }) ahead))
+      inr (inl (subst (λ (d : Waiting). AreAllAhead d cs) (λ i. record { unit = sym e i; tag = sym at i }) ahead)))
+      (this_or u a k stands);
+}
+
+-- a unit that is cut off changes nothing, safe or not
+pub first_cut : (cut : Option Waiting) (g : Graph) (waits : Values) (busy : Unit → Option Task) (r a k : ℕ) (tag : Tag) (cs : List Waiting) → AreFirst cut g waits busy r a k cs → IsCutOff cut (record { unit = record { actor = a; group = k }; tag = tag })
+    → ((t : Tag) → IsSafe g waits busy r (record { actor = a; group = k }) t → t ≡ tag) → AreFirst cut g waits busy r a (k + 1) cs
+first_cut cut g waits busy r a k tag cs first off same = record {
+  in_order = first.in_order;
+  safe = first.safe;
+  stand = each_map (λ (d : Waiting). StandsBefore d.unit a k) (λ (d : Waiting). StandsBefore d.unit a (k + 1)) cs (λ d h. stands_next d.unit a k h) first.stand;
+  within = first.within;
+  among = λ u t own stands safe. ⊎_elim
+      (λ (b : StandsBefore u a k). first.among u t own b safe)
+      (λ (e : u ≡ record { actor = a; group = k }).
+      let at : t ≡ tag = same t (subst (λ z. IsSafe g waits busy r z t) e safe) in
+      inr (inr (subst (λ (d : Waiting). IsCutOff cut d) (λ i. record { unit = sym e i; tag = sym at i }) off)))
       (this_or u a k stands);
 }
 
@@ -150,12 +175,13 @@ stands_or u a k = ⊎_elim
     same_or m n l = grind arith
 
 -- units between two places, none of which is safe, are passed over
-pub first_pass : (g : Graph) (waits : Values) (busy : Unit → Option Task) (r a k b l : ℕ) (cs : List Waiting) → ((x : Unit) → StandsBefore x a k → StandsBefore x b l)
-    → ((x : Unit) (t : Tag) → IsUnit g x → (StandsBefore x a k → ⊥) → StandsBefore x b l → IsSafe g waits busy r x t → ⊥) → AreFirst g waits busy r a k cs → AreFirst g waits busy r b l cs
-first_pass g waits busy r a k b l cs on none first = record {
+pub first_pass : (cut : Option Waiting) (g : Graph) (waits : Values) (busy : Unit → Option Task) (r a k b l : ℕ) (cs : List Waiting) → ((x : Unit) → StandsBefore x a k → StandsBefore x b l)
+    → ((x : Unit) (t : Tag) → IsUnit g x → (StandsBefore x a k → ⊥) → StandsBefore x b l → IsSafe g waits busy r x t → ⊥) → AreFirst cut g waits busy r a k cs → AreFirst cut g waits busy r b l cs
+first_pass cut g waits busy r a k b l cs on none first = record {
   in_order = first.in_order;
   safe = first.safe;
   stand = each_map (λ (d : Waiting). StandsBefore d.unit a k) (λ (d : Waiting). StandsBefore d.unit b l) cs (λ d h. on d.unit h) first.stand;
+  within = first.within;
   among = λ u t own stands safe. ⊎_elim
       (λ (before : StandsBefore u a k). first.among u t own before safe)
       (λ (not : StandsBefore u a k → ⊥). absurd (none u t own not stands safe))
@@ -163,11 +189,12 @@ first_pass g waits busy r a k b l cs on none first = record {
 }
 
 -- at the end all units of the graph stand before
-pub first_end : (g : Graph) (waits : Values) (busy : Unit → Option Task) (r a k : ℕ) (cs : List Waiting) → ((x : Unit) (t : Tag) → IsUnit g x → (StandsBefore x a k → ⊥) → HasEvent g waits x t → ⊥) → AreFirst g waits busy r a k cs → AreFirst g waits busy r (length g.actors) 0 cs
-first_end g waits busy r a k cs none first = record {
+pub first_end : (cut : Option Waiting) (g : Graph) (waits : Values) (busy : Unit → Option Task) (r a k : ℕ) (cs : List Waiting) → ((x : Unit) (t : Tag) → IsUnit g x → (StandsBefore x a k → ⊥) → HasEvent g waits x t → ⊥) → AreFirst cut g waits busy r a k cs → AreFirst cut g waits busy r (length g.actors) 0 cs
+first_end cut g waits busy r a k cs none first = record {
   in_order = first.in_order;
   safe = first.safe;
   stand = each_map (IsSafeUnit g waits busy r) (λ (d : Waiting). StandsBefore d.unit (length g.actors) 0) cs (λ d h. inl h.is_unit.0) first.safe;
+  within = first.within;
   among = λ u t own stands safe. ⊎_elim
       (λ (before : StandsBefore u a k). first.among u t own before safe)
       (λ (not : StandsBefore u a k → ⊥). absurd (none u t own not safe.event))
@@ -175,11 +202,12 @@ first_end g waits busy r a k cs none first = record {
 }
 
 -- before the first actor there is none
-pub first_none : (g : Graph) (waits : Values) (busy : Unit → Option Task) (r : ℕ) (cs : List Waiting) → cs ≡ [] → AreFirst g waits busy r 0 0 cs
-first_none g waits busy r cs is = subst (AreFirst g waits busy r 0 0) (sym is) (record {
+pub first_none : (cut : Option Waiting) (g : Graph) (waits : Values) (busy : Unit → Option Task) (r : ℕ) (cs : List Waiting) → cs ≡ [] → AreFirst cut g waits busy r 0 0 cs
+first_none cut g waits busy r cs is = subst (AreFirst cut g waits busy r 0 0) (sym is) (record {
   in_order = tt;
   safe = tt;
   stand = tt;
+  within = tt;
   among = λ u t own stands safe. absurd (⊎_elim (λ (l : u.actor < 0). never u.actor l) (λ (s : (u.actor ≡ 0) × (u.group < 0)). never u.group s.1) stands);
 })
   where
@@ -193,19 +221,43 @@ event_is_unit g f u t sound event =
     subst (IsUnit g) found.unit (sound.at_units u.actor found.port t found.value found.waits_there)
 
 -- all actors are done
-pub front_found : (g : Graph) (f : Fields) (r : ℕ) (more : Bool) (cs : List Waiting) → IsSound g f → length cs ≤ 64 → more ≡ (length cs == 64) → AreFirst g (waiting_in f.queue.events) (busy_in f.open_claims.items) r (length g.actors) 0 cs → AreFront g (waiting_in f.queue.events) (busy_in f.open_claims.items) r more cs
+pub front_found : (g : Graph) (f : Fields) (r : ℕ) (more : Bool) (cs : List Waiting) → IsSound g f → length cs ≤ 64 → more ≡ (length cs == 64) → AreFirst None g (waiting_in f.queue.events) (busy_in f.open_claims.items) r (length g.actors) 0 cs → AreFront g (waiting_in f.queue.events) (busy_in f.open_claims.items) r more cs
 front_found g f r more cs sound few is first = record {
   in_order = first.in_order;
   safe = first.safe;
   others = λ u t safe.
       let unit = event_is_unit g f u t sound safe.event in
       ⊎_elim (λ (m : IsIn (record { unit = u; tag = t }) cs). inl m)
-      (λ (full : (64 ≤ length cs) × Each (λ (c : Waiting). IsAhead c (record { unit = u; tag = t })) cs). inr (is ∙ eq-eqb (length cs) 64 (omega (arith, full.0, few)), full.1))
+      (λ (rest : AreAllAhead (record { unit = u; tag = t }) cs ⊎ ⊥). ⊎_elim
+      (λ (full : AreAllAhead (record { unit = u; tag = t }) cs). inr (is ∙ eq-eqb (length cs) 64 (omega (arith, full.0, few)), full.1))
+      (λ (none : ⊥). absurd none)
+      rest)
+      (first.among u t unit (inl unit.0) safe);
+}
+
+-- what isn't cut off comes before what is
+ahead_of_cut : (cut : Option Waiting) (x : Waiting) (cs : List Waiting) → IsCutOff cut x → Each (λ (c : Waiting). IsCutOff cut c → ⊥) cs → Each (λ (c : Waiting). IsAhead c x) cs
+ahead_of_cut None x cs off h = absurd off
+ahead_of_cut (Some cut) x [] off h = tt
+ahead_of_cut (Some cut) x (c ∷ cs) off h = (ahead_past cut c x h.0 off, ahead_of_cut (Some cut) x cs off h.1)
+
+-- all that isn't cut off was searched, so there may be more
+pub front_cut : (cut : Option Waiting) (g : Graph) (f : Fields) (r : ℕ) (cs : List Waiting) → IsSound g f → AreFirst cut g (waiting_in f.queue.events) (busy_in f.open_claims.items) r (length g.actors) 0 cs → AreFront g (waiting_in f.queue.events) (busy_in f.open_claims.items) r true cs
+front_cut cut g f r cs sound first = record {
+  in_order = first.in_order;
+  safe = first.safe;
+  others = λ u t safe.
+      let unit = event_is_unit g f u t sound safe.event in
+      ⊎_elim (λ (m : IsIn (record { unit = u; tag = t }) cs). inl m)
+      (λ (rest : AreAllAhead (record { unit = u; tag = t }) cs ⊎ IsCutOff cut (record { unit = u; tag = t })). ⊎_elim
+      (λ (full : AreAllAhead (record { unit = u; tag = t }) cs). inr (refl, full.1))
+      (λ (off : IsCutOff cut (record { unit = u; tag = t })). inr (refl, ahead_of_cut cut (record { unit = u; tag = t }) cs off first.within))
+      rest)
       (first.among u t unit (inl unit.0) safe);
 }
 
 -- at most one unit was found
-pub front_alone : (g : Graph) (f : Fields) (r : ℕ) (alone : Option Waiting) → IsSound g f → AreFirst g (waiting_in f.queue.events) (busy_in f.open_claims.items) r (length g.actors) 0 (one_of alone) → AreFront g (waiting_in f.queue.events) (busy_in f.open_claims.items) r false (one_of alone)
+pub front_alone : (g : Graph) (f : Fields) (r : ℕ) (alone : Option Waiting) → IsSound g f → AreFirst None g (waiting_in f.queue.events) (busy_in f.open_claims.items) r (length g.actors) 0 (one_of alone) → AreFront g (waiting_in f.queue.events) (busy_in f.open_claims.items) r false (one_of alone)
 front_alone g f r None sound first = front_found g f r false [] sound (omega arith) refl first
 front_alone g f r (Some c) sound first = front_found g f r false (c ∷ []) sound (omega arith) refl first
 

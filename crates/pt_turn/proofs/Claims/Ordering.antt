@@ -14,6 +14,13 @@ ahead_trans c d e h k = plain c.tag.time c.tag.step c.unit.actor c.unit.group d.
     plain : (a1 a2 a3 a4 b1 b2 b3 b4 c1 c2 c3 c4 : ℕ) → (a1 ≤ b1) × (b1 ≤ a1 → (a2 ≤ b2) × (b2 ≤ a2 → (a3 ≤ b3) × (b3 ≤ a3 → a4 < b4))) → (b1 ≤ c1) × (c1 ≤ b1 → (b2 ≤ c2) × (c2 ≤ b2 → (b3 ≤ c3) × (c3 ≤ b3 → b4 < c4))) → (a1 ≤ c1) × (c1 ≤ a1 → (a2 ≤ c2) × (c2 ≤ a2 → (a3 ≤ c3) × (c3 ≤ a3 → a4 < c4)))
     plain a1 a2 a3 a4 b1 b2 b3 b4 c1 c2 c3 c4 h k = grind arith
 
+-- what doesn't come after a unit comes before all that does
+pub ahead_past : (cut c x : Waiting) → (IsAhead cut c → ⊥) → IsAhead cut x → IsAhead c x
+ahead_past cut c x n h = plain cut.tag.time cut.tag.step cut.unit.actor cut.unit.group c.tag.time c.tag.step c.unit.actor c.unit.group x.tag.time x.tag.step x.unit.actor x.unit.group n h
+  where
+    plain : (a1 a2 a3 a4 b1 b2 b3 b4 c1 c2 c3 c4 : ℕ) → ((a1 ≤ b1) × (b1 ≤ a1 → (a2 ≤ b2) × (b2 ≤ a2 → (a3 ≤ b3) × (b3 ≤ a3 → a4 < b4))) → ⊥) → (a1 ≤ c1) × (c1 ≤ a1 → (a2 ≤ c2) × (c2 ≤ a2 → (a3 ≤ c3) × (c3 ≤ a3 → a4 < c4))) → (b1 ≤ c1) × (c1 ≤ b1 → (b2 ≤ c2) × (c2 ≤ b2 → (b3 ≤ c3) × (c3 ≤ b3 → b4 < c4)))
+    plain a1 a2 a3 a4 b1 b2 b3 b4 c1 c2 c3 c4 n h = grind arith
+
 -- one number and then what comes after it
 level : (m n : ℕ) (R S : Type 0) → (m ≡ n → R ⊎ S) → ((m ≤ n) × (n ≤ m → R)) ⊎ ((n ≤ m) × (m ≤ n → S))
 level m n R S f = ⊎_elim

@@ -92,11 +92,11 @@ group_is_few g u lawful unit =
     omega (arith, few, less)
 
 -- before the next unit that has events all units were passed
-pub up_to_next : (g : Graph) (waits : Values) (busy : Unit → Option Task) (r n : ℕ) (w : Waiting) (cs : List Waiting) → IsFirstWaiting g waits n (Some w)
-    → AreFirst g waits busy r (n / 8) (n % 8) cs → AreFirst g waits busy r w.unit.actor w.unit.group cs
-up_to_next g waits busy r n w cs next first =
+pub up_to_next : (cut : Option Waiting) (g : Graph) (waits : Values) (busy : Unit → Option Task) (r n : ℕ) (w : Waiting) (cs : List Waiting) → IsFirstWaiting g waits n (Some w)
+    → AreFirst cut g waits busy r (n / 8) (n % 8) cs → AreFirst cut g waits busy r w.unit.actor w.unit.group cs
+up_to_next cut g waits busy r n w cs next first =
     let few : w.unit.group < 8 = (next.2 w.unit w.tag next.0.0).0 in
-    first_pass g waits busy r (n / 8) (n % 8) w.unit.actor w.unit.group cs
+    first_pass cut g waits busy r (n / 8) (n % 8) w.unit.actor w.unit.group cs
     (λ x stands. to_unit x w.unit n few next.1 stands)
     (λ x t own not before safe.
     let this = next.2 x t safe.event in
@@ -107,26 +107,26 @@ up_to_next g waits busy r n w cs next first =
     first
 
 -- behind a unit the search goes on at the next place
-pub up_to_behind : (g : Graph) (waits : Values) (busy : Unit → Option Task) (r n : ℕ) (w : Waiting) (cs : List Waiting) → IsFirstWaiting g waits n (Some w)
-    → AreFirst g waits busy r w.unit.actor (w.unit.group + 1) cs → AreFirst g waits busy r ((8 * w.unit.actor + w.unit.group + 1) / 8) ((8 * w.unit.actor + w.unit.group + 1) % 8) cs
-up_to_behind g waits busy r n w cs next first =
+pub up_to_behind : (cut : Option Waiting) (g : Graph) (waits : Values) (busy : Unit → Option Task) (r n : ℕ) (w : Waiting) (cs : List Waiting) → IsFirstWaiting g waits n (Some w)
+    → AreFirst cut g waits busy r w.unit.actor (w.unit.group + 1) cs → AreFirst cut g waits busy r ((8 * w.unit.actor + w.unit.group + 1) / 8) ((8 * w.unit.actor + w.unit.group + 1) % 8) cs
+up_to_behind cut g waits busy r n w cs next first =
     let few : w.unit.group < 8 = (next.2 w.unit w.tag next.0.0).0 in
-    first_pass g waits busy r w.unit.actor (w.unit.group + 1) ((8 * w.unit.actor + w.unit.group + 1) / 8) ((8 * w.unit.actor + w.unit.group + 1) % 8) cs
+    first_pass cut g waits busy r w.unit.actor (w.unit.group + 1) ((8 * w.unit.actor + w.unit.group + 1) / 8) ((8 * w.unit.actor + w.unit.group + 1) % 8) cs
     (λ x stands. to_next x w.unit few stands)
     (λ x t own not before safe. not (from_next x w.unit (next.2 x t safe.event).0 few before))
     first
 
 -- behind the last unit that has events there is none
-pub up_to_end : (g : Graph) (waits : Values) (busy : Unit → Option Task) (r n : ℕ) (cs : List Waiting) → IsFirstWaiting g waits n None
-    → AreFirst g waits busy r (n / 8) (n % 8) cs → AreFirst g waits busy r (length g.actors) 0 cs
-up_to_end g waits busy r n cs none first = first_end g waits busy r (n / 8) (n % 8) cs (λ x t own not event. let this = none x t event in not (from_place x n this.0 this.1)) first
+pub up_to_end : (cut : Option Waiting) (g : Graph) (waits : Values) (busy : Unit → Option Task) (r n : ℕ) (cs : List Waiting) → IsFirstWaiting g waits n None
+    → AreFirst cut g waits busy r (n / 8) (n % 8) cs → AreFirst cut g waits busy r (length g.actors) 0 cs
+up_to_end cut g waits busy r n cs none first = first_end cut g waits busy r (n / 8) (n % 8) cs (λ x t own not event. let this = none x t event in not (from_place x n this.0 this.1)) first
 
 -- the word of the next unit is passed over if none of its units is due
-pub behind_word : (g : Graph) (waits : Values) (busy : Unit → Option Task) (r n p m : ℕ) (w : Waiting) (cs : List Waiting) → p ≡ 8 * w.unit.actor + w.unit.group → m ≡ 64 * (p / 64 + 1) → IsFirstWaiting g waits n (Some w) → IsEarlyWord g waits r (p / 64)
-    → AreFirst g waits busy r (n / 8) (n % 8) cs → AreFirst g waits busy r (m / 8) (m % 8) cs
-behind_word g waits busy r n p m w cs at is next early first =
+pub behind_word : (cut : Option Waiting) (g : Graph) (waits : Values) (busy : Unit → Option Task) (r n p m : ℕ) (w : Waiting) (cs : List Waiting) → p ≡ 8 * w.unit.actor + w.unit.group → m ≡ 64 * (p / 64 + 1) → IsFirstWaiting g waits n (Some w) → IsEarlyWord g waits r (p / 64)
+    → AreFirst cut g waits busy r (n / 8) (n % 8) cs → AreFirst cut g waits busy r (m / 8) (m % 8) cs
+behind_word cut g waits busy r n p m w cs at is next early first =
     let le : n ≤ 8 * w.unit.actor + w.unit.group = next.1 in
-    first_pass g waits busy r (n / 8) (n % 8) (m / 8) (m % 8) cs
+    first_pass cut g waits busy r (n / 8) (n % 8) (m / 8) (m % 8) cs
     (λ x stands. to_later x n m (omega (arith, at, is, le)) stands)
     (λ x t own not before safe.
     let this = next.2 x t safe.event in

@@ -53,25 +53,31 @@ AreBothSafe g waits busy r s = IsSafeSomewhen g waits busy r s.first × IsSafeSo
 abbrev pub AreAllAhead : Waiting → List Waiting → Type 0
 AreAllAhead c cs = (64 ≤ length cs) × Each (λ (d : Waiting). IsAhead d c) cs
 
--- a unit with this tag is in the list, or the list has at least 64 units and all come before it
-abbrev pub IsAmong : Unit → Tag → List Waiting → Type 0
-IsAmong u t cs = IsIn (record { unit = u; tag = t }) cs ⊎ AreAllAhead (record { unit = u; tag = t }) cs
+-- c comes behind the cut, if there is one
+abbrev pub IsCutOff : Option Waiting → Waiting → Type 0
+IsCutOff None c = ⊥
+IsCutOff (Some cut) c = IsAhead cut c
+
+-- a unit with this tag is in the list, or the list has at least 64 units and all come before it, or it is cut off
+abbrev pub IsAmong : Option Waiting → Unit → Tag → List Waiting → Type 0
+IsAmong cut u t cs = IsIn (record { unit = u; tag = t }) cs ⊎ (AreAllAhead (record { unit = u; tag = t }) cs ⊎ IsCutOff cut (record { unit = u; tag = t }))
 
 -- unit u comes before group k of actor a
 abbrev pub StandsBefore : Unit → ℕ → ℕ → Type 0
 StandsBefore u a k = (u.actor < a) ⊎ ((u.actor ≡ a) × (u.group < k))
 
--- of the safe units before group k of actor a these are the first 64 in order, or all if they are fewer
-pub record AreFirst (g : Graph) (waits : Values) (busy : Unit → Option Task) (r a k : ℕ) (cs : List Waiting) : Type 0 where
+-- of the safe units before group k of actor a that aren't cut off these are the first 64 in order, or all if they are fewer
+pub record AreFirst (cut : Option Waiting) (g : Graph) (waits : Values) (busy : Unit → Option Task) (r a k : ℕ) (cs : List Waiting) : Type 0 where
   pub in_order : IsInOrder cs
   pub safe : Each (IsSafeUnit g waits busy r) cs
   pub stand : Each (λ (c : Waiting). StandsBefore c.unit a k) cs
-  pub among : (u : Unit) (t : Tag) → IsUnit g u → StandsBefore u a k → IsSafe g waits busy r u t → IsAmong u t cs
+  pub within : Each (λ (c : Waiting). IsCutOff cut c → ⊥) cs
+  pub among : (u : Unit) (t : Tag) → IsUnit g u → StandsBefore u a k → IsSafe g waits busy r u t → IsAmong cut u t cs
 
--- the same before this unit; or, for None, of all safe units
-abbrev pub AreFirstUpTo : Graph → Values → (Unit → Option Task) → ℕ → Option Waiting → List Waiting → Type 0
-AreFirstUpTo g waits busy r None cs = AreFirst g waits busy r (length g.actors) 0 cs
-AreFirstUpTo g waits busy r (Some c) cs = AreFirst g waits busy r c.unit.actor c.unit.group cs
+-- the same before this unit; or, for None, of all safe units that aren't cut off
+abbrev pub AreFirstUpTo : Option Waiting → Graph → Values → (Unit → Option Task) → ℕ → Option Waiting → List Waiting → Type 0
+AreFirstUpTo cut g waits busy r None cs = AreFirst cut g waits busy r (length g.actors) 0 cs
+AreFirstUpTo cut g waits busy r (Some c) cs = AreFirst cut g waits busy r c.unit.actor c.unit.group cs
 
 -- a unit that is due, and the first with events from some place on, which isn't before n
 pub record IsAsked (g : Graph) (waits : Values) (r n : ℕ) (c : Waiting) : Type 0 where

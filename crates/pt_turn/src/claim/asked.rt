@@ -60,9 +60,9 @@ pub fn next_asked(
     requires sound { IsSound plan.now.graph fields.now }
     requires ahead { IfSome ahead (HasEventAhead plan.now.graph
         (waiting_in fields.now.queue.events) plan.now.least) }
-    ensures first { (busy : Unit → Option Task) → (cs : Sequence Pending) →
-        AreFirst plan.now.graph (waiting_in fields.now.queue.events) busy reading (from / 8)
-        (from % 8) cs → AreFirstUpTo plan.now.graph
+    ensures first { (cut : Option Pending) → (busy : Unit → Option Task) → (cs : Sequence Pending) →
+        AreFirst cut plan.now.graph (waiting_in fields.now.queue.events) busy reading (from / 8)
+        (from % 8) cs → AreFirstUpTo cut plan.now.graph
         (waiting_in fields.now.queue.events) busy reading result cs }
     ensures asked { IfSome result (IsAsked plan.now.graph
         (waiting_in fields.now.queue.events) reading from) }

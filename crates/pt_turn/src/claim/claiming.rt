@@ -158,7 +158,7 @@ fn claim_several(
     ensures tasks { vec_capacity tasks.old ≤ vec_capacity tasks.new }
 {
     let mut front = Front::new();
-    front.refill(fields, plan, reading, known);
+    front.refill(fields, plan, reading, known, most);
     for _ in 0..most {
         if fields.claims >= plan.graph().claims {
             return;

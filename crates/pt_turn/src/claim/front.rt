@@ -1,6 +1,6 @@
 //! The safe units to claim next.
 
-ghost use Rattle.std.specs.Prelude.{◌≡◌, ◌<◌, ◌+◌, ◌⊎◌, ◌↔◌, ℕ, List as Sequence, [], Some, IfErr, IfOk, IfSome, true, false, drop, length};
+ghost use Rattle.std.specs.Prelude.{◌≡◌, ◌<◌, ◌+◌, ◌⊎◌, ◌↔◌, ℕ, List as Sequence, [], None, Some, IfErr, IfOk, IfSome, true, false, drop, length};
 ghost use Rattle.pt_semantics.specs.Bounds.{Feeds};
 ghost use Rattle.pt_semantics.specs.Edges.{Edge};
 ghost use Rattle.pt_semantics.specs.Ranks.{sum_along};
@@ -14,7 +14,8 @@ ghost use Rattle.pt_turn.specs.Claims.Fronts.{AreBothSafe, AreFirst, AreFront, I
 
 use crate::claim::ahead::{Ahead, holder_of};
 use crate::claim::asked::next_asked;
-use crate::claim::order::{is_past_all, put};
+use crate::claim::cut::cut_behind;
+use crate::claim::order::{is_cut_off, is_past_all, put};
 use crate::claim::safe::{is_free, is_safe};
 use crate::state::Fields;
 use arrayvec::ArrayVec;
@@ -22,6 +23,9 @@ use pt_offsets::Plan;
 use pt_queue::{Waiting, place_of};
 use pt_tags::{Reading, Tag};
 use pt_types::Unit;
+
+/// A search for this many units asks all that are due at once.
+const ALL: usize = 64;
 
 /// The safe units to claim next, in order, at most 64, and how many of them are taken.
 #[derive(Drop)]
@@ -73,7 +77,8 @@ fn is_free_or_known(
     is_free(fields, plan, reading, unit, tag)
 }
 
-/// Adds a unit that is due, if it is safe, to those to claim next. A unit that 64 of these come before isn't asked.
+/// Adds a unit that is due, if it is safe, to those to claim next. A unit that 64 of these come before isn't asked, nor one that comes
+/// behind the `cut`.
 ///
 /// `ahead` is a unit with events that may hold up others, and so is the result, for the search for the next one: the one that was
 /// last found to hold up any. A safe unit mostly holds up none of the next ones. Units that are `known` to be safe aren't searched again.
@@ -84,6 +89,7 @@ fn add_unit(
     waiting: Waiting,
     ahead: Option<Ahead>,
     known: Option<Several>,
+    cut: Option<Waiting>,
     units: &mut ArrayVec<Waiting, 64>,
 ) -> Option<Ahead>
     requires sound { IsSound plan.now.graph fields.now }
@@ -95,16 +101,19 @@ fn add_unit(
         (waiting_in fields.now.queue.events) plan.now.least) }
     requires known { IfSome known (AreBothSafe plan.now.graph (waiting_in fields.now.queue.events)
         (busy_in fields.now.open_claims.items) reading) }
-    requires first { AreFirst plan.now.graph (waiting_in fields.now.queue.events)
+    requires first { AreFirst cut plan.now.graph (waiting_in fields.now.queue.events)
         (busy_in fields.now.open_claims.items) reading waiting.unit.actor waiting.unit.group
         units.old.items }
-    ensures first { AreFirst plan.now.graph (waiting_in fields.now.queue.events)
+    ensures first { AreFirst cut plan.now.graph (waiting_in fields.now.queue.events)
         (busy_in fields.now.open_claims.items) reading waiting.unit.actor
         (waiting.unit.group + 1) units.new.items }
     ensures ahead { IfSome result (HasEventAhead plan.now.graph
         (waiting_in fields.now.queue.events) plan.now.least) }
 {
     if is_past_all(units, waiting) {
+        return ahead;
+    }
+    if is_cut_off(cut, waiting) {
         return ahead;
     }
     let Waiting { unit, tag } = waiting;
@@ -115,18 +124,20 @@ fn add_unit(
     ahead
 }
 
-/// Replaces the list by the first safe units in order, at most 64. Searches the units that have events.
+/// Replaces the list by the first safe units in order, at most 64, of those that don't come behind the `cut`. Searches the units that
+/// have events.
 fn fill(
     fields: &Fields,
     plan: &Plan,
     reading: Reading,
     known: Option<Several>,
+    cut: Option<Waiting>,
     units: &mut ArrayVec<Waiting, 64>,
 )
     requires sound { IsSound plan.now.graph fields.now }
     requires known { IfSome known (AreBothSafe plan.now.graph (waiting_in fields.now.queue.events)
         (busy_in fields.now.open_claims.items) reading) }
-    ensures { AreFirst plan.now.graph (waiting_in fields.now.queue.events)
+    ensures { AreFirst cut plan.now.graph (waiting_in fields.now.queue.events)
         (busy_in fields.now.open_claims.items) reading
         (length plan.now.graph.actors) 0 units.new.items }
 {
@@ -134,9 +145,60 @@ fn fill(
     let mut ahead = None;
     let mut from = 0usize;
     while let Some(waiting) = next_asked(fields, plan, reading, ahead, from) {
-        ahead = add_unit(fields, plan, reading, waiting, ahead, known, units);
+        ahead = add_unit(fields, plan, reading, waiting, ahead, known, cut, units);
         from = place_of(waiting.unit) + 1;
     }
+}
+
+/// Replaces the list by the first safe units in order, of those that don't come behind the cut, and returns whether there are any.
+/// Without a cut it does nothing.
+fn fill_before(
+    fields: &Fields,
+    plan: &Plan,
+    reading: Reading,
+    known: Option<Several>,
+    cut: Option<Waiting>,
+    units: &mut ArrayVec<Waiting, 64>,
+) -> bool
+    requires sound { IsSound plan.now.graph fields.now }
+    requires known { IfSome known (AreBothSafe plan.now.graph (waiting_in fields.now.queue.events)
+        (busy_in fields.now.open_claims.items) reading) }
+    ensures front { result ≡ true → AreFront plan.now.graph
+        (waiting_in fields.now.queue.events) (busy_in fields.now.open_claims.items) reading true
+        units.new.items }
+    ensures some { result ≡ true → 0 < length units.new.items }
+{
+    if cut.is_none() {
+        return false;
+    }
+    fill(fields, plan, reading, known, cut, units);
+    !units.is_empty()
+}
+
+/// Replaces the list by the first safe units in order, at most 64, and returns whether there may be more.
+///
+/// Of many units the first `few` that are due are asked first, and the others only if none of these is safe.
+fn search(
+    fields: &Fields,
+    plan: &Plan,
+    reading: Reading,
+    known: Option<Several>,
+    few: usize,
+    units: &mut ArrayVec<Waiting, 64>,
+) -> bool
+    requires sound { IsSound plan.now.graph fields.now }
+    requires known { IfSome known (AreBothSafe plan.now.graph (waiting_in fields.now.queue.events)
+        (busy_in fields.now.open_claims.items) reading) }
+    ensures front { AreFront plan.now.graph (waiting_in fields.now.queue.events)
+        (busy_in fields.now.open_claims.items) reading result units.new.items }
+    ensures some { (0 < length units.new.items) ⊎ (result ≡ false) }
+{
+    let cut = cut_behind(fields, plan, reading, few);
+    if fill_before(fields, plan, reading, known, cut, units) {
+        return true;
+    }
+    fill(fields, plan, reading, known, None, units);
+    units.is_full()
 }
 
 /// The safe unit so far, after one more unit that has events.
@@ -151,11 +213,11 @@ fn alone_with(
     requires unit { IsUnit plan.now.graph waiting.unit }
     requires tag { IsLeastTag plan.now.graph (waiting_in fields.now.queue.events) waiting.unit
         (Some waiting.tag) }
-    requires first { AreFirst plan.now.graph (waiting_in fields.now.queue.events)
+    requires first { AreFirst None plan.now.graph (waiting_in fields.now.queue.events)
         (busy_in fields.now.open_claims.items) reading waiting.unit.actor waiting.unit.group
         (one_of alone) }
     ensures alone { IfOk result (λ alone.
-        AreFirst plan.now.graph (waiting_in fields.now.queue.events)
+        AreFirst None plan.now.graph (waiting_in fields.now.queue.events)
         (busy_in fields.now.open_claims.items) reading waiting.unit.actor (waiting.unit.group + 1)
         (one_of alone)) }
     ensures several { IfErr result (AreBothSafe plan.now.graph (waiting_in fields.now.queue.events)
@@ -207,9 +269,17 @@ impl Front {
         }
     }
 
-    /// Searches again. Not inlined, so that a unit that was found already is taken without a call.
+    /// Searches again, and asks no more than `few` units if these are safe. Not inlined, so that a unit that was found already is taken
+    /// without a call.
     #[inline(never)]
-    pub fn refill(&mut self, fields: &Fields, plan: &Plan, reading: Reading, known: Option<Several>)
+    pub fn refill(
+        &mut self,
+        fields: &Fields,
+        plan: &Plan,
+        reading: Reading,
+        known: Option<Several>,
+        few: usize,
+    )
         requires sound { IsSound plan.now.graph fields.now }
         requires known { IfSome known (AreBothSafe plan.now.graph
             (waiting_in fields.now.queue.events) (busy_in fields.now.open_claims.items) reading) }
@@ -218,9 +288,8 @@ impl Front {
             (drop self.new.taken self.new.units.items) }
         ensures some { (self.new.taken < length self.new.units.items) ⊎ (self.new.more ≡ false) }
     {
-        fill(fields, plan, reading, known, &mut self.units);
+        self.more = search(fields, plan, reading, known, few, &mut self.units);
         self.taken = 0;
-        self.more = self.units.is_full();
     }
 
     /// Takes the first safe unit; `None` if no unit is safe.
@@ -235,7 +304,7 @@ impl Front {
             (drop self.new.taken self.new.units.items) result }
     {
         if self.taken >= self.units.len() && self.more {
-            self.refill(fields, plan, reading, None);
+            self.refill(fields, plan, reading, None, ALL);
         }
         if self.taken >= self.units.len() {
             return None;

@@ -2,13 +2,13 @@
 
 ghost use Rattle.std.specs.Prelude.{◌≡◌, ◌↔◌, true};
 ghost use Rattle.pt_semantics.specs.Lists.{Each};
-ghost use Rattle.pt_turn.specs.Claims.Fronts.{AreAllAhead, IsAhead, IsInOrder, IsFrontPlace, IsInserted};
+ghost use Rattle.pt_turn.specs.Claims.Fronts.{AreAllAhead, IsAhead, IsCutOff, IsInOrder, IsFrontPlace, IsInserted};
 
 use arrayvec::ArrayVec;
 use pt_queue::Waiting;
 
 /// Whether a unit comes before another by tag, actor and group.
-fn is_before(a: Waiting, b: Waiting) -> bool
+pub fn is_before(a: Waiting, b: Waiting) -> bool
     ensures { (result ≡ true) ↔ IsAhead a b }
 {
     if a.tag.time != b.tag.time {
@@ -83,4 +83,14 @@ pub fn is_past_all(units: &ArrayVec<Waiting, 64>, next: Waiting) -> bool
     ensures { result ≡ true → AreAllAhead next units.now.items }
 {
     units.is_full() && all_come_before(units.as_slice(), next)
+}
+
+/// Whether a unit comes behind the cut, if there is one.
+pub fn is_cut_off(cut: Option<Waiting>, next: Waiting) -> bool
+    ensures { (result ≡ true) ↔ IsCutOff cut next }
+{
+    match cut {
+        None => false,
+        Some(cut) => is_before(cut, next),
+    }
 }

@@ -12,6 +12,7 @@ ghost use Rattle.pt_queue.specs.Events.{waiting_in, IsLeastTag};
 ghost use Rattle.pt_turn.specs.Fields.State.{busy_in, IsSound};
 ghost use Rattle.pt_turn.specs.Claims.Safe.{may_lead_to};
 
+use crate::claim::ahead::{holder_of, is_behind};
 use crate::state::{Fields, OpenClaim, OpenClaims};
 use pt_causality::Least;
 use pt_offsets::Plan;
@@ -59,6 +60,9 @@ fn is_held_up(claims: &OpenClaims, least: &Least, unit: Unit, tag: Tag) -> bool
 }
 
 /// As `is_free`, where claims may be open. Not inlined, since mostly none is open where units are asked.
+///
+/// What costs least is asked first: the unit that last held up this one, then the open claims, which are few. While a claim stays
+/// open, units that wait for it are asked again at each turn, and only then follows a search of all events.
 #[inline(never)]
 fn is_free_of_claims(fields: &Fields, plan: &Plan, reading: Reading, unit: Unit, tag: Tag) -> bool
     requires sound { IsSound plan.now.graph fields.now }
@@ -72,11 +76,14 @@ fn is_free_of_claims(fields: &Fields, plan: &Plan, reading: Reading, unit: Unit,
     if fields.open_claims.has(unit) {
         return false;
     }
-    let least = plan.least();
-    if fields.queue.blocked(unit, tag, least) {
+    if is_behind(fields, plan, unit, tag, holder_of(fields, plan, unit)) {
         return false;
     }
-    !is_held_up(&fields.open_claims, least, unit, tag)
+    let least = plan.least();
+    if is_held_up(&fields.open_claims, least, unit, tag) {
+        return false;
+    }
+    !fields.queue.blocked(unit, tag, least)
 }
 
 /// Whether a unit that is due is safe: it has no open claim, and no event and no open claim leads to it in time.

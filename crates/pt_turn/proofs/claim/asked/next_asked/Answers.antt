@@ -16,11 +16,11 @@ loop-waiting-preserved c =
     let next = c.in-Some.ensures c.args.plan.now.graph c.requires.sound.groups in
     record {
       later = omega (arith, c.loop-waiting.invariant.later, next.1, c.place_of-place.ensures);
-      first = λ busy cs start.
-          subst (λ p. AreFirst c.args.plan.now.graph (waiting_in c.args.fields.now.queue.events) busy c.args.reading ((p + 1) / 8) ((p + 1) % 8) cs) (sym c.place_of-place.ensures)
-          (up_to_behind c.args.plan.now.graph (waiting_in c.args.fields.now.queue.events) busy c.args.reading c.loop-waiting.from c.in-Some.waiting cs next
-          (first_skip c.args.plan.now.graph (waiting_in c.args.fields.now.queue.events) busy c.args.reading c.in-Some.waiting.unit.actor c.in-Some.waiting.unit.group cs
-          (up_to_next c.args.plan.now.graph (waiting_in c.args.fields.now.queue.events) busy c.args.reading c.loop-waiting.from c.in-Some.waiting cs next (c.loop-waiting.invariant.first busy cs start))
+      first = λ cut busy cs start.
+          subst (λ p. AreFirst cut c.args.plan.now.graph (waiting_in c.args.fields.now.queue.events) busy c.args.reading ((p + 1) / 8) ((p + 1) % 8) cs) (sym c.place_of-place.ensures)
+          (up_to_behind cut c.args.plan.now.graph (waiting_in c.args.fields.now.queue.events) busy c.args.reading c.loop-waiting.from c.in-Some.waiting cs next
+          (first_skip cut c.args.plan.now.graph (waiting_in c.args.fields.now.queue.events) busy c.args.reading c.in-Some.waiting.unit.actor c.in-Some.waiting.unit.group cs
+          (up_to_next cut c.args.plan.now.graph (waiting_in c.args.fields.now.queue.events) busy c.args.reading c.loop-waiting.from c.in-Some.waiting cs next (c.loop-waiting.invariant.first cut busy cs start))
           (λ t. c.is_asked.ensures.waits c.if-is_asked.false busy t)));
     }
 
@@ -36,7 +36,7 @@ loop-waiting-preserved-then-is_passed_over c =
     let next = c.in-Some.ensures c.args.plan.now.graph c.requires.sound.groups in
     record {
       later = omega (arith, c.loop-waiting.invariant.later, next.1, c.place_of-place.ensures, c.next_word-from.ensures);
-      first = λ busy cs start. behind_word c.args.plan.now.graph (waiting_in c.args.fields.now.queue.events) busy c.args.reading c.loop-waiting.from c.place_of-place.result c.next_word-from.result c.in-Some.waiting cs c.place_of-place.ensures c.next_word-from.ensures next (c.is_passed_over.ensures c.if-is_passed_over.true) (c.loop-waiting.invariant.first busy cs start);
+      first = λ cut busy cs start. behind_word cut c.args.plan.now.graph (waiting_in c.args.fields.now.queue.events) busy c.args.reading c.loop-waiting.from c.place_of-place.result c.next_word-from.result c.in-Some.waiting cs c.place_of-place.ensures c.next_word-from.ensures next (c.is_passed_over.ensures c.if-is_passed_over.true) (c.loop-waiting.invariant.first cut busy cs start);
     }
 
 pub loop-waiting-smaller-then-is_passed_over : goal.loop-waiting-smaller-then-is_passed_over
@@ -47,7 +47,7 @@ loop-waiting-smaller-then-is_passed_over c =
     omega (arith, next.1, unit.0, few, c.place_of-place.ensures, c.next_word-from.ensures)
 
 pub returns-then-is_asked-clause-first : goal.returns-then-is_asked-clause-first
-returns-then-is_asked-clause-first c = λ busy cs start. up_to_next c.args.plan.now.graph (waiting_in c.args.fields.now.queue.events) busy c.args.reading c.loop-waiting.from c.in-Some.waiting cs (c.in-Some.ensures c.args.plan.now.graph c.requires.sound.groups) (c.loop-waiting.invariant.first busy cs start)
+returns-then-is_asked-clause-first c = λ cut busy cs start. up_to_next cut c.args.plan.now.graph (waiting_in c.args.fields.now.queue.events) busy c.args.reading c.loop-waiting.from c.in-Some.waiting cs (c.in-Some.ensures c.args.plan.now.graph c.requires.sound.groups) (c.loop-waiting.invariant.first cut busy cs start)
 
 pub returns-then-is_asked-clause-asked : goal.returns-then-is_asked-clause-asked
 returns-then-is_asked-clause-asked c = record {
@@ -58,4 +58,4 @@ returns-then-is_asked-clause-asked c = record {
 }
 
 pub returns-clause-first : goal.returns-clause-first
-returns-clause-first c = λ busy cs start. up_to_end c.args.plan.now.graph (waiting_in c.args.fields.now.queue.events) busy c.args.reading c.loop-waiting.from cs (c.in_default.ensures c.args.plan.now.graph c.requires.sound.groups) (c.loop-waiting.invariant.first busy cs start)
+returns-clause-first c = λ cut busy cs start. up_to_end cut c.args.plan.now.graph (waiting_in c.args.fields.now.queue.events) busy c.args.reading c.loop-waiting.from cs (c.in_default.ensures c.args.plan.now.graph c.requires.sound.groups) (c.loop-waiting.invariant.first cut busy cs start)

@@ -9,7 +9,7 @@ use Rattle.pt_turn.proofs.claim.asked.next_asked.Given as goal
 abbrev pub invariant-loop-waiting : goal.invariant-loop-waiting
 invariant-loop-waiting l = record {
   later : l.fn.from ≤ l.from;
-  first : (busy : Unit → Option Task) (cs : List Waiting) → AreFirst l.plan.graph (waiting_in l.fields.queue.events) busy l.reading (l.fn.from / 8) (l.fn.from % 8) cs → AreFirst l.plan.graph (waiting_in l.fields.queue.events) busy l.reading (l.from / 8) (l.from % 8) cs;
+  first : (cut : Option Waiting) (busy : Unit → Option Task) (cs : List Waiting) → AreFirst cut l.plan.graph (waiting_in l.fields.queue.events) busy l.reading (l.fn.from / 8) (l.fn.from % 8) cs → AreFirst cut l.plan.graph (waiting_in l.fields.queue.events) busy l.reading (l.from / 8) (l.from % 8) cs;
 }
 
 abbrev pub decreases-loop-waiting : goal.decreases-loop-waiting

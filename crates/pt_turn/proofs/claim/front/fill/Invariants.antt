@@ -6,7 +6,7 @@ use Rattle.pt_turn.specs.Claims.Fronts.{AreFirst}
 use Rattle.pt_turn.proofs.claim.front.fill.Given as goal
 
 abbrev pub invariant-loop-waiting : goal.invariant-loop-waiting
-invariant-loop-waiting l = (AreFirst l.plan.graph (waiting_in l.fields.queue.events) (busy_in l.fields.open_claims.items) l.reading (l.from / 8) (l.from % 8) l.units.items) × IfSome l.ahead (HasEventAhead l.plan.graph (waiting_in l.fields.queue.events) l.plan.least)
+invariant-loop-waiting l = (AreFirst l.cut l.plan.graph (waiting_in l.fields.queue.events) (busy_in l.fields.open_claims.items) l.reading (l.from / 8) (l.from % 8) l.units.items) × IfSome l.ahead (HasEventAhead l.plan.graph (waiting_in l.fields.queue.events) l.plan.least)
 
 abbrev pub decreases-loop-waiting : goal.decreases-loop-waiting
 decreases-loop-waiting l = 8 * length l.plan.graph.actors - l.from
