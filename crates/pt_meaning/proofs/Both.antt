@@ -16,14 +16,14 @@ use Rattle.pt_meaning.proofs.Places.{sound_more}
 pub first_early : (rank : ℕ → ℕ) (e l : Values) (a : ℕ) (t : Tag) → IsFirst rank (added e l) a t → IsFirst rank e a t
 first_early rank e l a t first b p u v is = first b p u v (ap (λ x. or_else x (l b p u)) is)
 
-some_late : (x y : Option ℤ) (v : ℤ) → y ≡ Some v → (z : ℤ) × (or_else x y ≡ Some z)
+pub some_late : (x y : Option ℤ) (v : ℤ) → y ≡ Some v → (z : ℤ) × (or_else x y ≡ Some z)
 some_late None y v is = (v, is)
 some_late (Some x) y v is = (x, refl)
 
 pub first_late : (rank : ℕ → ℕ) (e l : Values) (a : ℕ) (t : Tag) → IsFirst rank (added e l) a t → IsFirst rank l a t
 first_late rank e l a t first b p u v is = let there = some_late (e b p u) (l b p u) v is in first b p u there.0 there.1
 
-either : (x y : Option ℤ) (v : ℤ) → or_else x y ≡ Some v → (x ≡ Some v) ⊎ (y ≡ Some v)
+pub either : (x y : Option ℤ) (v : ℤ) → or_else x y ≡ Some v → (x ≡ Some v) ⊎ (y ≡ Some v)
 either None y v is = inr is
 either (Some x) y v is = inl is
 

@@ -9,6 +9,10 @@ pub mod Emitting
 pub mod Earlies
 pub mod Opens
 pub mod FiredOn
+pub mod Firsts
+pub mod Spans
+pub mod CrowdPlaces
+pub mod Crowds
 pub mod Runnable
 pub mod Lowest
 pub mod Standings

@@ -46,11 +46,11 @@ least_present rank actors steps all x least sound =
     any_at (waiting (waits_in rank all) x.actor x.tag) x.port
     (subst IsSome (sym (at_eight (λ p. waits_in rank all x.actor p x.tag) x.port here.port)) there)
 
-some_near : (x y : Option ℤ) → IsSome x → IsSome (or_else x y)
+pub some_near : (x y : Option ℤ) → IsSome x → IsSome (or_else x y)
 some_near None y h = absurd cc
 some_near (Some v) y h = refl
 
-some_far : (x y : Option ℤ) → IsSome y → IsSome (or_else x y)
+pub some_far : (x y : Option ℤ) → IsSome y → IsSome (or_else x y)
 some_far None y h = h
 some_far (Some v) y h = refl
 

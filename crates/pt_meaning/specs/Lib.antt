@@ -2,6 +2,7 @@ pub mod Flat
 pub mod Marks
 pub mod Waiting
 pub mod Front
+pub mod Crowded
 pub mod Line
 pub mod Held
 pub mod Early

@@ -1,11 +1,12 @@
 //! A line of events that wait, in the order in which they fire.
 
-ghost use Rattle.std.specs.Prelude.{◌≡◌, ◌++◌, ◌∷◌, [], List, IfOk, IsTrue, MatchBool, MatchOption, None, length};
+ghost use Rattle.std.specs.Prelude.{◌≡◌, ◌≤◌, ◌++◌, ◌∷◌, [], List, IfOk, IsTrue, MatchBool, MatchOption, None, length};
 ghost use Rattle.pt_meaning.specs.declared.place.EventPlace.{EventPlace};
 ghost use Rattle.pt_meaning.specs.declared.gap_buffer.Sent.{Sent};
 ghost use Rattle.pt_meaning.specs.Front.{Enters, IsLeastPlace};
 ghost use Rattle.pt_meaning.specs.Line.{begins_with, in_line, AreBefore, IsSortedLine};
 ghost use Rattle.pt_meaning.specs.Waiting.{place_cmp};
+ghost use Rattle.pt_meaning.specs.Crowded.{IsCrowded};
 
 use crate::front::TakeFirst;
 use crate::gap::{begins_with, ends_at, ends_before, place_at_front, reach};
@@ -95,6 +96,23 @@ impl GapBuffer {
         }
         self.before.push_back(Sent { place, value })?;
         Ok(true)
+    }
+
+    /// How many events there are.
+    #[inline(always)]
+    fn len(&self) -> usize
+        ensures len { result ≤ length self.now }
+        ensures rising { IsSortedLine place_cmp self.now }
+    {
+        self.before.len().saturating_add(self.after.len())
+    }
+
+    /// Whether there are more events than so many firings can take, each of which takes eight at most.
+    #[inline(always)]
+    pub fn is_crowded(&self, firings: usize) -> bool
+        ensures { IsTrue result → IsCrowded (in_line place_cmp self.now) firings }
+    {
+        self.len() / 8 > firings
     }
 
     /// Whether there are events after the gap and a place is after all of them, as that of a new one often is.

@@ -1,12 +1,13 @@
 //! The events sent since the start.
 
-ghost use Rattle.std.specs.Prelude.{◌≡◌, ℕ, IfOk, IfSome, IfNone, OnOk, None};
+ghost use Rattle.std.specs.Prelude.{◌≡◌, ℕ, IfOk, IfSome, IfNone, IsTrue, OnOk, None};
 ghost use Rattle.pt_tags.specs.declared.tag.Tag.{Tag};
 ghost use Rattle.pt_semantics.specs.Meaning.{added};
 ghost use Rattle.pt_meaning.specs.Placed.{FiresFirst, GivesFirstInputs, HasInput, IsPlaced, NoneWaits, StayPlaced, TakesFirst};
 ghost use Rattle.pt_meaning.specs.Waiting.{waits_in, value_at, IsPlaceIn, EventsArePlaced};
 ghost use Rattle.pt_meaning.specs.Front.{Enters};
 ghost use Rattle.pt_meaning.specs.Held.{late_value};
+ghost use Rattle.pt_meaning.specs.Crowded.{IsCrowded};
 
 use crate::current::Current;
 use crate::pending::Pending;
@@ -74,6 +75,14 @@ impl Late {
             return Ok(());
         }
         self.pending.enter(place, value)
+    }
+
+    /// Whether so many events wait for later tags that so many firings can't take them all.
+    #[inline(always)]
+    pub fn is_crowded(&self, firings: usize) -> bool
+        ensures { IsTrue result → IsCrowded (late_value self.now) firings }
+    {
+        self.pending.is_crowded(firings)
     }
 
     /// Takes an actor's events of a tag, which must be the first, and writes their values at its inputs. The tag runs then.

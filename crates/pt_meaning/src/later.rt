@@ -5,6 +5,7 @@ ghost use Rattle.std.specs.BTreeMap as tree;
 ghost use Rattle.pt_meaning.specs.declared.place.EventPlace.{EventPlace};
 ghost use Rattle.pt_meaning.specs.Front.{Enters, IsLeastPlace, Replaces};
 ghost use Rattle.pt_meaning.specs.Waiting.{place_cmp};
+ghost use Rattle.pt_meaning.specs.Crowded.{IsCrowded};
 
 use crate::front::TakeFirst;
 use crate::place::{EventPlace, is_of};
@@ -48,6 +49,14 @@ impl Later {
             Some((first, _)) => place < *first,
             None => true,
         }
+    }
+
+    /// Whether there are more events than so many firings can take, each of which takes eight at most.
+    #[inline(always)]
+    pub fn is_crowded(&self, firings: usize) -> bool
+        ensures { IsTrue result → IsCrowded (tree.get place_cmp self.now.events) firings }
+    {
+        self.events.len() / 8 > firings
     }
 
     /// Adds an event, unless one waits at its place.

@@ -56,7 +56,8 @@ impl From<Memory> for MeaningFault {
 /// actor.
 ///
 /// `ranks` has the rank of each actor of the graph. Rows past the horizon are left out. Fails with `Long` if there are more
-/// than `most` firings, and with `Memory` if memory runs out, here or in the receiver.
+/// than `most` firings, and with `Memory` if memory runs out, here or in the receiver. It fails with `Long` as soon as more events
+/// wait than the firings that are left can take, so the events that wait take memory in proportion to `most`.
 ///
 /// A sensor 0, a scale 1 by 2/1, a delay 2 of 100 us and an actuator 3, wired in a row, with one row, 7 at time 50: actors 0, 1 and
 /// 2 fire at 50.0, and actor 3 fires at 150.0 with 14 at its input.
@@ -114,6 +115,9 @@ fn run<R: Receiver>(
     let mut count = 0;
     while let Some(next) = list.waiting.first() {
         if count >= most {
+            return Err(MeaningFault::Long);
+        }
+        if list.waiting.late.is_crowded(most - count) {
             return Err(MeaningFault::Long);
         }
         let leaving = outgoing[next.actor as usize].as_slice();

@@ -1,11 +1,12 @@
 //! The events sent since the start for later tags, in the order in which they fire.
 
-ghost use Rattle.std.specs.Prelude.{◌≡◌, ℕ, IfSome, IfNone, OnOk, None, length};
+ghost use Rattle.std.specs.Prelude.{◌≡◌, ℕ, IfSome, IfNone, IsTrue, OnOk, None, length};
 ghost use Rattle.pt_tags.specs.declared.tag.Tag.{Tag};
 ghost use Rattle.pt_meaning.specs.Placed.{FiresFirst, HasInput, IsPlaced, NoneWaits, PutsFirstInputs, StayPlaced, TakesFirst};
 ghost use Rattle.pt_meaning.specs.Waiting.{waits_in, EventsArePlaced};
 ghost use Rattle.pt_meaning.specs.Front.{Enters};
 ghost use Rattle.pt_meaning.specs.Held.{pending_value};
+ghost use Rattle.pt_meaning.specs.Crowded.{IsCrowded};
 
 use crate::front::take_all;
 use crate::gap_buffer::GapBuffer;
@@ -63,6 +64,14 @@ impl Pending {
             return Ok(());
         }
         self.later.enter(place, value)
+    }
+
+    /// Whether in the line or in the map there are more events than so many firings can take.
+    #[inline(always)]
+    pub fn is_crowded(&self, firings: usize) -> bool
+        ensures { IsTrue result → IsCrowded (pending_value self.now) firings }
+    {
+        self.line.is_crowded(firings) || self.later.is_crowded(firings)
     }
 
     /// Takes an actor's events of a tag, which must be the first, and writes their values at its inputs.

@@ -1,4 +1,4 @@
-use Rattle.std.proofs.Common.{◌≡◌, ◌≤◌, ◌<◌, ◌+◌, ◌∙◌, ◌++◌, ◌∷◌, [], ap, sym, refl, arith, length}
+use Rattle.std.proofs.Common.{◌≡◌, ◌≤◌, ◌<◌, ◌+◌, ◌-◌, ◌∙◌, ◌++◌, ◌∷◌, [], ap, sym, refl, arith, length}
 use Rattle.std.proofs.lemmas.List.{length_push}
 use Rattle.std.proofs.lemmas.Grind.{common_steps}
 use Rattle.pt_semantics.specs.Meaning.{at_start, rows_until}
@@ -8,6 +8,7 @@ use Rattle.pt_sensors.specs.Listed.{rows_for}
 use Rattle.pt_meaning.specs.Running.{world_in}
 use Rattle.pt_meaning.proofs.FiredOn.{steps_push, steps_end}
 use Rattle.pt_meaning.proofs.Both.{are_sound_more}
+use Rattle.pt_meaning.proofs.Crowds.{crowd_is_long}
 use Rattle.pt_meaning.proofs.Runnable.{present_at}
 use Rattle.pt_meaning.proofs.meaning.run.Goals as goal
 
@@ -32,6 +33,17 @@ returns-then-count-most-clause-long g c = λ _.
       steps = went.steps;
       more = (c.in-Some.next.actor, there.0, c.in-Some.next.tag, there.1, there.2);
     }
+
+-- more events wait than the firings that are left can take
+pub returns-then-is_crowded-clause-long : goal.returns-then-is_crowded-clause-long
+returns-then-is_crowded-clause-long g c = λ _.
+    let graph = c.args.graph.now in let rank = rank_in c.args.ranks.now in
+    let went = c.loop-next.invariant.went in
+    let firings_left = c.args.most - c.loop-next.count in
+    let sum : length went.firings + firings_left ≡ c.args.most = omega (arith, went.len, c.loop-next.invariant.most) in
+    crowd_is_long graph rank (length graph.actors) c.loop-next.count c.args.most (rows_for c.args.sensors.now) went.firings
+    (world_in c.args.ranks.now c.loop-next.list.waiting c.loop-next.list.states.items) c.loop-next.list.waiting c.requires.runnable.edges went.steps refl c.loop-next.invariant.sound
+    firings_left sum (c.is_crowded.ensures c.if-is_crowded.true)
 
 pub fire_next-requires-clause-first : goal.fire_next-requires-clause-first
 fire_next-requires-clause-first g c = c.in-Some.ensures.first (rank_in c.args.ranks.now) (length c.args.graph.now.actors) c.loop-next.count c.loop-next.invariant.sound
