@@ -4,7 +4,7 @@ pub mod CauseFields
 pub mod ByCause
 pub mod OneDue
 pub mod Puts
-pub mod Ending
+pub mod Endings
 pub mod OverPlan
 pub mod Planned
 pub mod Asks
@@ -46,3 +46,5 @@ pub mod ReplaysAgreeing
 pub mod Stages
 pub mod DueEnds
 pub mod OfDue
+pub mod MostFirings
+pub mod Answering

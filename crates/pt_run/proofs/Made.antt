@@ -1,7 +1,6 @@
 -- Runs over made inputs.
-use Rattle.std.proofs.Common.{◌≡◌, ◌≢◌, ℕ, suc, ◌+◌, ◌<◌, ◌≤◌, List, [], ◌∷◌, Option, None, Some, ℤ, pos, ◌-ℤ◌, ◌+ℤ◌, ◌<ℤ◌, length, option_map, slice_get, arith, append-nil, refl, sym, ap, subst, ◌∙◌, inl, ⊎_elim, inr}
-use Rattle.std.specs.Prelude.{String, flat_map}
-use Rattle.std.specs.declared.alloc.Global.{Global}
+use Rattle.std.proofs.Common.{◌≡◌, ◌≢◌, ℕ, suc, ◌+◌, ◌<◌, ◌≤◌, List, [], ◌∷◌, Option, None, Some, ℤ, pos, ◌-ℤ◌, ◌+ℤ◌, ◌<ℤ◌, length, slice_get, arith, append-nil, refl, sym, ap, subst, ◌∙◌, inl, ⊎_elim, inr}
+use Rattle.std.specs.Prelude.{flat_map}
 use Rattle.std.proofs.lemmas.Int.{ints}
 use Rattle.std.proofs.lemmas.Option.{slice_get_within}
 use Rattle.pt_types.specs.declared.graph.Graph.{Graph}
@@ -39,19 +38,13 @@ use Rattle.pt_make.proofs.Timely.{never_missed}
 use Rattle.pt_run.specs.declared.fault.Fault.{Fault}
 use Rattle.pt_turn.specs.All.{AreReady}
 use Rattle.pt_io.specs.Causes.{Appends, AppendsPart, Rose}
-use Rattle.pt_words.specs.declared.orders.Order as declared
-use Rattle.pt_words.specs.declared.orders.Order.TheVariants.{Make}
-use Rattle.pt_words.proofs.Numbers.{made_number}
 use Rattle.pt_run.specs.declared.outcome.Ending.{Ending}
 use Rattle.pt_run.specs.Texts.{left_by, left_by_run}
 use Rattle.pt_run.specs.Due.{IsDue}
 use Rattle.pt_run.specs.Written.{Leaves}
 use Rattle.pt_io.specs.Calls.{Contents, SourceCall, SinkCall}
 use Rattle.pt_run.specs.declared.fault.Fault.TheVariants as fault
-use Rattle.pt_words.specs.Views.{in_words}
 use Rattle.pt_blocks.specs.declared.blocks.Named.{Named}
-use Rattle.pt_sensors.proofs.Asking.{asks_none}
-use Rattle.pt_run.specs.Asks.{AsksOf}
 use Rattle.pt_run.specs.Faults.{fault_of_plan}
 use Rattle.pt_run.specs.Making.{IsMadeRun}
 use Rattle.pt_run.specs.Reporting.{Reports}
@@ -60,7 +53,7 @@ use Rattle.pt_offsets.specs.Faults.{CauseOfPlan}
 use Rattle.pt_offsets.specs.declared.fault.OffsetFault.TheVariants as offset
 use Rattle.pt_offsets.specs.declared.fault.PlanFault.{PlanFault}
 use Rattle.pt_offsets.specs.declared.fault.PlanFault.TheVariants as unplanned
-use Rattle.pt_words.specs.Grammar.{make, order_of}
+use Rattle.pt_words.specs.Grammar.{make}
 use Rattle.pt_types.specs.Limits.{usual_claims}
 
 -- a made graph has a plan, unless memory runs out
@@ -170,19 +163,6 @@ reports_nothing outcome misses n written is none =
     nothing_put : (o : Option (List ℕ)) → Appends o o []
     nothing_put None = tt
     nothing_put (Some bytes) = ap Some (sym (append-nil bytes))
-
--- the number of a `make`
-pub made_number_in : (words : List (String Global)) (order : Option declared.Order) (n k : ℕ) → option_map in_words order ≡ order_of words → order ≡ Some (Make n k) → n ≤ 100
-made_number_in words order n k says is = made_number words n k (sym says ∙ ap (option_map in_words) is)
-
-pub order_is : (words : List (String Global)) (order : Option declared.Order) (n k : ℕ) → option_map in_words order ≡ order_of words → order ≡ Some (Make n k) → Some (make n k) ≡ order_of words
-order_is words order n k says is = sym (ap (option_map in_words) is) ∙ says
-
--- it asks for no file
-pub asks_for_none : (words : List (String Global)) (order : Option declared.Order) (n k : ℕ) (outcome : Option Fault) (contents : Contents) (blocks : List Named) (asked : Option (List (List ℕ))) (faults : ℕ) → option_map in_words order ≡ order_of words → order ≡ Some (Make n k)
-    → AsksOf outcome (order_of words) contents blocks (record { asked_before = asked; asked_now = asked; before = faults; now = faults })
-asks_for_none words order n k outcome contents blocks asked faults says is =
-    subst (λ o. AsksOf outcome o contents blocks (record { asked_before = asked; asked_now = asked; before = faults; now = faults })) (order_is words order n k says is) (asks_none asked asked refl)
 
 -- what is gathered of the platforms of a plan
 pub gathered_as : (plan other : Parts) (platforms views : List PlatformView) (firings : List ActorFiring) → other ≡ plan → views ≡ platforms → ((rows : ℕ → List Row) → HaveFinished other rows views → IsMeaning other.graph (rank_of other.ranks) rows firings)

@@ -18,7 +18,7 @@ use Rattle.pt_run.specs.Auditing.{LastFails}
 use Rattle.pt_run.specs.Due.{AfterAdmission, AfterRows, Answer, RefusesAsDue, UnlessMemory, WithPlan}
 use Rattle.pt_run.specs.Faults.{fault_of_rows}
 use Rattle.pt_run.specs.LastFiles.{HasAllRows}
-use Rattle.pt_run.proofs.Ending.{rows_due}
+use Rattle.pt_run.proofs.Endings.{rows_due}
 
 module _ (contents : Contents) (p : Parts) (g : Graph) (Then : Answer → Parts → (ℕ → List Row) → Type 0) (admitted : IsAdmitted p) (same : g ≡ p.graph) where
   -- what is due after the rows

@@ -36,7 +36,7 @@ use Rattle.pt_run.specs.Faults.{fault_of_plan, fault_of_rows, fault_of_turn}
 use Rattle.pt_run.specs.Leaving.{LeavesRun, PutsMeaning}
 use Rattle.pt_run.specs.Written.{HasNothing, Leaves, run_clocks, has_run, leaves_nothing, stop_of}
 use Rattle.pt_run.specs.Texts.{HasEnded, LeftAll, OrMemory, WroteRun, left_by, left_by_run, left_with, stop_in}
-use Rattle.pt_run.proofs.Ending.{has_nothing}
+use Rattle.pt_run.proofs.Endings.{has_nothing}
 
 -- what a call leaves, with what the clocks showed before its run and after it
 abbrev over : Leaves → List ClockView → List ClockView → Leaves

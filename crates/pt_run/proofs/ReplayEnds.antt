@@ -41,7 +41,7 @@ use Rattle.pt_run.specs.Replaying.{FinishedReplay, HasReplayed, IsRecorded, Leav
 use Rattle.pt_run.specs.Runs.{IsOutput, IsStop, AreOutputs, RunOver, outputs_text}
 use Rattle.pt_run.specs.Texts.{HasEnded, LeftAll, WroteRun, left_by, left_by_run}
 use Rattle.pt_run.specs.Written.{Leaves}
-use Rattle.pt_run.proofs.Ending.{has_nothing}
+use Rattle.pt_run.proofs.Endings.{has_nothing}
 use Rattle.pt_run.proofs.ReplayInBounds.{never_late}
 use Rattle.pt_run.proofs.Stages.{past_air}
 use Rattle.pt_sensors.specs.Limits.{file_limits}

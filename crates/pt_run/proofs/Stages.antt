@@ -30,7 +30,7 @@ use Rattle.pt_run.specs.Replaying.{has_replayed}
 use Rattle.pt_run.specs.Reporting.{AreOfGraph}
 use Rattle.pt_words.specs.Grammar.{GraphFile, over, audit, replay}
 use Rattle.pt_run.specs.Written.{FitOnAll, HasNothing, IsChecked, IsTables, Leaves, has_run}
-use Rattle.pt_run.proofs.Ending.{past_file, reported_due}
+use Rattle.pt_run.proofs.Endings.{past_file, reported_due}
 use Rattle.pt_run.proofs.Reported.{of_none}
 use Rattle.pt_run.specs.GraphFiles.{graph_by}
 

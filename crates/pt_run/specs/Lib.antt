@@ -32,3 +32,4 @@ pub mod Due
 pub mod LastFiles
 pub mod GraphFiles
 pub mod Counts
+pub mod Prompt

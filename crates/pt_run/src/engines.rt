@@ -8,10 +8,12 @@ ghost use Rattle.pt_offsets.specs.Plans.{Parts};
 ghost use Rattle.pt_turn.specs.All.{AreReady, IsReady};
 ghost use Rattle.pt_confluence.specs.Gathered.{AreLegal};
 ghost use Rattle.pt_run.specs.Clocks.{AreAsMany};
+ghost use Rattle.pt_run.specs.Prompt.{choice_of};
 ghost use Rattle.pt_run.specs.Readings.{step_clock};
 ghost use Rattle.pt_run.specs.Runs.{LeavesOutcome, clocks_by, paced_run_clocks, read_with, steps_by};
 ghost use Rattle.pt_run.specs.Workers.{IsOutcomeOfWorkers};
 
+use crate::own_run::OwnClock;
 use pt_blocks::Blocks;
 use pt_engine::{ClockedRounds, Rounds};
 use pt_fixed_order::alone;
@@ -19,7 +21,6 @@ use pt_io::{Clock, StepClock};
 use pt_rounds::paced;
 use pt_tags::{Memory, Time};
 use pt_turn::Platform;
-use pt_words::ClockChoice;
 use pt_workers::threaded;
 use pt_workers::work::Open;
 use std::alloc::Global;
@@ -32,14 +33,14 @@ use std::thread::Threads;
 const CLAIMS_A_VISIT: usize = 8;
 
 /// Runs all platforms of one plan, just opened and in the order of its graph, by this clock. By the machine's clock it has as many
-/// workers, 1 to 64, and reads the first of the clocks that are handed in, one for each platform. By the other clocks the number of
+/// workers, 1 to 64, and reads the first of the clocks that are handed in, one for each platform. By clocks of steps the number of
 /// workers has no effect.
 pub fn run_by<C: Clock + Send, R: Threads + Wait + Sync>(
     rt: &R,
     alloc: Global,
     platforms: Vec<Platform>,
     workers: u32,
-    clock: ClockChoice,
+    clock: OwnClock,
     clocks: &mut Vec<C>,
     blocks: &Blocks,
 ) -> Result<Rounds, Memory>
@@ -47,22 +48,21 @@ pub fn run_by<C: Clock + Send, R: Threads + Wait + Sync>(
     requires ready { IsReady platforms.items }
     requires clocks { length platforms.items ≤ length clocks.old.items }
     ensures outcome { IfOk result
-        (LeavesOutcome (read_with workers clock (viewed C.readings C.ahead clocks.old.items)
+        (LeavesOutcome (read_with workers (choice_of clock) (viewed C.readings C.ahead clocks.old.items)
         (viewed C.readings C.ahead clocks.new.items)) platforms.items) }
-    ensures clocks { OnOk result (AreAsMany clock clocks.old.items clocks.new.items) }
+    ensures clocks { OnOk result (AreAsMany (choice_of clock) clocks.old.items clocks.new.items) }
 {
     match clock {
-        ClockChoice::Paced => run_paced(alloc, platforms, blocks, workers),
-        ClockChoice::Step { start, step } => {
+        OwnClock::Steps { start, step } => {
             run_by_steps(rt, alloc, platforms, workers, start, step, blocks)
         }
-        ClockChoice::Machine => run_by_clocks(rt, alloc, platforms, workers, clocks, blocks),
+        OwnClock::Machine => run_by_clocks(rt, alloc, platforms, workers, clocks, blocks),
     }
 }
 
 /// Runs all platforms of one plan, just opened and in the order of its graph, under the paced clock. The number of workers, 1
 /// to 64, has no effect.
-fn run_paced(
+pub fn run_paced(
     alloc: Global,
     platforms: Vec<Platform>,
     blocks: &Blocks,

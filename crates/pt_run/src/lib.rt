@@ -9,9 +9,9 @@
 //! `specs/Making.antt`, `specs/Migrating.antt`, `specs/Auditing.antt` and `specs/Replaying.antt`. That an answer which known files decide
 //! comes whenever it is due is in `specs/Exact.antt`. Which files are asked for is in `specs/Asks.antt`.
 //!
-//! Read first: `ptides`, then `specs/Headline.antt`. A run goes from `top` by `admission`, `run` and `engines` to `outputs`. Only the
-//! functions between `ptides` and `engines` may wait and start threads; the engine of paced runs, `check`, `meaning`, `make`, `migrate`, `slacks`, `audit` and `replay` return,
-//! as the absence of that bound in them says.
+//! Read first: `ptides`, then `specs/Headline.antt`. A run goes from `top` by `admission`, `run` or `paced_run`, and `engines` to
+//! `outputs`. Only a run by clocks of its own may wait and start threads. All other orders are answered by `answer`, in `prompt`, which
+//! returns, as the absence of that bound in it says.
 #![tactic(auto)]
 
 mod admission;
@@ -28,7 +28,10 @@ mod migrate;
 mod notes;
 mod outcome;
 mod outputs;
+mod own_run;
+mod paced_run;
 mod plan_laws;
+mod prompt;
 mod replay;
 mod run;
 mod slacks;
@@ -39,6 +42,7 @@ pub use laws::{
     calls_agree, replays_agree, replays_in_bounds_agree_with_runs, replays_in_bounds_do_as_paced,
     runs_agree, slack_runs_miss_nothing, usual_headline, writes_tables, written_logs_are_lawful,
 };
-pub use outcome::Outcome;
+pub use outcome::{Ending, Outcome};
 pub use plan_laws::{finished_runs_agree, plan_runs_agree, step_runs_agree};
+pub use prompt::answer;
 pub use top::ptides;

@@ -1,6 +1,6 @@
 //! The command `meaning`.
 
-ghost use Rattle.std.specs.Prelude.{[], length, string_bytes};
+ghost use Rattle.std.specs.Prelude.{◌≡◌, ◌*◌, [], length, string_bytes};
 ghost use Rattle.pt_io.specs.Calls.{SourceCall, reading};
 ghost use Rattle.pt_types.specs.Lawful.{IsLawful};
 ghost use Rattle.pt_semantics.specs.Lists.{Each};
@@ -67,7 +67,7 @@ fn meaning_text<S: Source>(
     meaning_tables(alloc, graph, ranks, sensors.as_slice())
 }
 
-/// The tables of the meaning of a graph and these rows, if it has at most the graph's number of claims times the number of platforms firings.
+/// The tables of the meaning of a graph and these rows, if it has no more firings than `most_firings` allows.
 fn meaning_tables(
     alloc: Global,
     graph: &Graph,
@@ -80,10 +80,18 @@ fn meaning_tables(
     ensures { (r : SourceCall) →
         AnswersAsDue string_bytes result r (IsMeantBy graph.now (rows_for sensors.now)) }
 {
-    let most = graph.claims as usize * graph.platforms.as_slice().len();
-    match tables_of_meaning(alloc, graph, ranks.ranks(), sensors, most) {
+    match tables_of_meaning(alloc, graph, ranks.ranks(), sensors, most_firings(graph)) {
         Ok(text) => Ok(text),
         Err(MeaningFault::Long) => Err(Fault::Long { platform: None }),
         Err(MeaningFault::Memory) => Err(Fault::Memory),
     }
+}
+
+/// The most firings for which a meaning is written: the graph's number of claims for each of its platforms.
+#[tactic(auto, using(crate::proofs::MostFirings::few_products))]
+fn most_firings(graph: &Graph) -> usize
+    requires { IsLawful graph.now }
+    ensures { result ≡ graph.now.claims * length graph.now.platforms }
+{
+    graph.claims as usize * graph.platforms.as_slice().len()
 }

@@ -11,6 +11,7 @@ ghost use Rattle.pt_run.specs.declared.fault.Fault.TheVariants.{Memory as NoMemo
 ghost use Rattle.pt_run.specs.Asks.{AsksOver};
 ghost use Rattle.pt_run.specs.Clocks.{AreBackBy};
 ghost use Rattle.pt_run.specs.Due.{IsDueFor, UnlessMemory, as_answer};
+ghost use Rattle.pt_run.specs.Prompt.{choice_of};
 ghost use Rattle.pt_run.specs.Readings.{read_by};
 ghost use Rattle.pt_run.specs.Reporting.{Reports};
 ghost use Rattle.pt_run.specs.Runs.{CauseOfStop, HasOutputs, read_with};
@@ -23,12 +24,12 @@ use crate::engines::run_by;
 use crate::fault::Fault;
 use crate::outcome::{Ending, Stopped};
 use crate::outputs::{Outputs, end_run, outputs_of};
+use crate::own_run::OwnClock;
 use pt_blocks::Blocks;
 use pt_io::{Clock, Sink, Source};
 use pt_offsets::Plan;
 use pt_tags::Memory;
 use pt_types::Graph;
-use pt_words::ClockChoice;
 use std::alloc::Global;
 use std::sync::{Arc, Wait};
 use std::thread::Threads;
@@ -39,7 +40,7 @@ pub fn run_graph<S: Source, K: Sink, E: Sink, C: Clock + Send, R: Threads + Wait
     rt: &R,
     alloc: Global,
     workers: u32,
-    clock: ClockChoice,
+    clock: OwnClock,
     log: bool,
     graph: Graph,
     source: &mut S,
@@ -55,13 +56,13 @@ pub fn run_graph<S: Source, K: Sink, E: Sink, C: Clock + Send, R: Threads + Wait
         (S.asked source.new) }
     ensures due { UnlessMemory
         (as_answer result.fault
-        (left_with result (read_by clock (viewed C.readings C.ahead clocks.old.items))
-        (read_by clock (viewed C.readings C.ahead clocks.new.items)))
+        (left_with result (read_by (choice_of clock) (viewed C.readings C.ahead clocks.old.items))
+        (read_by (choice_of clock) (viewed C.readings C.ahead clocks.new.items)))
         (reading S.Source source.old source.new)
         (writing K.Sink out.old out.new))
-        (IsDueFor (Run workers clock log) (S.contents source.old) graph []) }
+        (IsDueFor (Run workers (choice_of clock) log) (S.contents source.old) graph []) }
     ensures clocks { result.fault ≢ Some NoMemory →
-        AreBackBy clock result.fault clocks.old.items clocks.new.items }
+        AreBackBy (choice_of clock) result.fault clocks.old.items clocks.new.items }
     ensures flushed { result.fault ≡ None → K.flushed out.new }
     ensures notes { Reports result.fault result.misses (Some graph)
         (writing E.Sink notes.old notes.new) }
@@ -85,7 +86,7 @@ fn run_plan<S: Source, C: Clock + Send, R: Threads + Wait + Sync>(
     alloc: Global,
     plan: &Arc<Plan>,
     workers: u32,
-    clock: ClockChoice,
+    clock: OwnClock,
     log: bool,
     source: &mut S,
     clocks: &mut Vec<C>,
@@ -94,15 +95,15 @@ fn run_plan<S: Source, C: Clock + Send, R: Threads + Wait + Sync>(
     requires clocks { length clocks.old.items ≡ 16 }
     ensures ran { IfOk result
         (HasOutputs (S.contents source.old)
-        (read_with workers clock (viewed C.readings C.ahead clocks.old.items)
+        (read_with workers (choice_of clock) (viewed C.readings C.ahead clocks.old.items)
         (viewed C.readings C.ahead clocks.new.items)) (arc_value plan.now) log) }
     ensures stopped { IfErr result
         (λ s. CauseOfStop s (S.contents source.old)
-        (read_with workers clock (viewed C.readings C.ahead clocks.old.items)
+        (read_with workers (choice_of clock) (viewed C.readings C.ahead clocks.old.items)
         (viewed C.readings C.ahead clocks.new.items)) (arc_value plan.now)
         (reading S.Source source.old source.new)) }
     ensures clocks { stop_in result ≢ Some NoMemory →
-        AreBackBy clock (stop_in result) clocks.old.items clocks.new.items }
+        AreBackBy (choice_of clock) (stop_in result) clocks.old.items clocks.new.items }
     ensures asks { AsksOver (stop_in result) [] (arc_value plan.now).graph.actors []
         (S.asked source.old) (S.asked source.new) }
     ensures reads { LeavesReads (stop_in result) (S.faults source.old) (S.faults source.new) }

@@ -1,45 +1,39 @@
 //! The top call.
 
-ghost use Rattle.std.specs.Prelude.{◌≡◌, ◌≤◌, ◌≢◌, ◌↔◌, None, Some, [], flat_map, length, string_bytes};
+ghost use Rattle.std.specs.Prelude.{◌≡◌, ◌≤◌, ◌≢◌, ◌↔◌, None, Some, [], flat_map, length};
 ghost use Rattle.pt_io.specs.Calls.{reading, writing};
 ghost use Rattle.pt_io.specs.Clocks.{viewed};
-ghost use Rattle.pt_types.specs.Lawful.{IsLawful};
 ghost use Rattle.pt_monitors.specs.Platforms.{missed_by};
-ghost use Rattle.pt_run.specs.Asks.{AsksFrom, AsksOf, AsksOver, actors_for};
+ghost use Rattle.pt_run.specs.Asks.{AsksFrom, AsksOf};
 ghost use Rattle.pt_run.specs.Clocks.{AreBack, AreBackFor};
 ghost use Rattle.pt_run.specs.Complete.{IsComplete, IsCompleteByAnyClock};
 ghost use Rattle.pt_run.specs.declared.fault.Fault.TheVariants.{Memory};
-ghost use Rattle.pt_run.specs.Due.{IsDue, IsDueFor, UnlessMemory, as_answer};
+ghost use Rattle.pt_run.specs.Due.{IsDue, as_answer};
 ghost use Rattle.pt_run.specs.Exact.{IsExact};
 ghost use Rattle.pt_run.specs.InBounds.{IsCompleteInBounds};
 ghost use Rattle.pt_run.specs.OverFiles.{HasHeadline};
 ghost use Rattle.pt_run.specs.Statuses.{status_of};
 ghost use Rattle.pt_words.specs.Grammar.{order_of, over};
-ghost use Rattle.pt_words.specs.Views.{file_in};
+ghost use Rattle.pt_words.specs.Claims.{HasFewClaims};
+ghost use Rattle.pt_words.specs.Views.{file_in, in_words};
 ghost use Rattle.pt_types.specs.Limits.{greatest_claims};
 ghost use Rattle.pt_run.specs.Making.{ReportsOf};
+ghost use Rattle.pt_run.specs.Prompt.{MakesFew, command_of};
 ghost use Rattle.pt_run.specs.Replaying.{IsReplayHeadline};
-ghost use Rattle.pt_run.specs.Reporting.{Reports, ReportsBy};
-ghost use Rattle.pt_run.specs.Texts.{PutsOrReports, left_at, left_of, left_over};
+ghost use Rattle.pt_run.specs.Reporting.{ReportsBy};
+ghost use Rattle.pt_run.specs.Texts.{left_at, left_of, left_over};
 ghost use Rattle.pt_run.specs.Counts.{LeavesReads, LeavesWrites};
 
 use crate::admission::graph_at;
-use crate::audit::audit;
-use crate::check::check_answer;
 use crate::fault::Fault;
-use crate::make::make;
-use crate::meaning::meaning_answer;
-use crate::migrate::migrate;
-use crate::notes::{report, report_write};
+use crate::notes::report;
 use crate::outcome::{Ending, Outcome};
-use crate::outputs::put_text;
-use crate::replay::replay;
+use crate::own_run::{OwnRun, own_run_of};
+use crate::prompt::answer;
 use crate::run::run_graph;
-use crate::slacks::slacks_answer;
 use pt_blocks::Blocks;
 use pt_io::{Clock, Sink, Source};
-use pt_types::Graph;
-use pt_words::{Command, GraphFile, Order, order};
+use pt_words::{Order, order};
 use std::alloc::Global;
 use std::sync::Wait;
 use std::thread::Threads;
@@ -52,9 +46,8 @@ use std::thread::Threads;
 /// one line on `notes` says why; after a run with misses, one line for each. In a run by the machine's clock platform i reads
 /// clock i of the 16 that are handed in; no other call reads them. `blocks` has the functions that actors may name.
 ///
-/// This call may wait. No clause says which commands end: the parts of `check`, `meaning`, `make`, `migrate`, `slacks`, `audit`,
-/// `replay` and a paced run that don't take `rt` do, and a run by a clock of its own, `--clock step:..` or `--clock machine`, may go
-/// on forever if its clock stops.
+/// This call may wait: a run by a clock of its own, `--clock step:..` or `--clock machine`, may go on forever if its clock stops.
+/// Every other order is passed to `answer`, which takes no handle that allows waiting, so it returns.
 pub fn ptides<S: Source, K: Sink, E: Sink, C: Clock + Send, R: Threads + Wait + Sync>(
     rt: &R,
     alloc: Global,
@@ -138,7 +131,7 @@ pub fn ptides<S: Source, K: Sink, E: Sink, C: Clock + Send, R: Threads + Wait + 
         (writing E.Sink notes.old notes.new) }
 {
     let mut handed = clocks;
-    let ending = run_order(rt, alloc, words, source, out, notes, &mut handed, blocks);
+    let ending = run_words(rt, alloc, words, source, out, notes, &mut handed, blocks);
     Outcome {
         status: ending.status,
         fault: ending.fault,
@@ -149,7 +142,7 @@ pub fn ptides<S: Source, K: Sink, E: Sink, C: Clock + Send, R: Threads + Wait + 
 }
 
 /// Runs the command of these words. The other clauses of `ptides` follow from these.
-fn run_order<S: Source, K: Sink, E: Sink, C: Clock + Send, R: Threads + Wait + Sync>(
+fn run_words<S: Source, K: Sink, E: Sink, C: Clock + Send, R: Threads + Wait + Sync>(
     rt: &R,
     alloc: Global,
     words: &[String],
@@ -180,31 +173,8 @@ fn run_order<S: Source, K: Sink, E: Sink, C: Clock + Send, R: Threads + Wait + S
     ensures writes { LeavesWrites result.fault (K.faults out.old) (K.faults out.new) }
 {
     let fault = match order(alloc, words) {
-        Ok(Some(Order::Over { command, graph })) => {
-            return run_file(
-                rt, alloc, command, graph, source, out, notes, clocks, blocks,
-            );
-        }
-        Ok(Some(Order::Make { number, workers })) => {
-            return make(alloc, number, workers, out, notes, blocks);
-        }
-        Ok(Some(Order::Migrate { graph })) => {
-            return migrate(alloc, graph, source, out, notes, blocks);
-        }
-        Ok(Some(Order::Audit { graph, log })) => {
-            return audit(alloc, graph, log, source, out, notes, blocks);
-        }
-        Ok(
-            Some(
-                Order::Replay {
-                    graph,
-                    air,
-                    workers,
-                    log,
-                },
-            ),
-        ) => {
-            return replay(alloc, graph, air, workers, log, source, out, notes, blocks);
+        Ok(Some(order)) => {
+            return run_order(rt, alloc, order, source, out, notes, clocks, blocks);
         }
         Ok(None) => Fault::Usage,
         Err(_) => Fault::Memory,
@@ -213,12 +183,11 @@ fn run_order<S: Source, K: Sink, E: Sink, C: Clock + Send, R: Threads + Wait + S
     Ending::refused(alloc, fault)
 }
 
-/// Runs a command on the graph in this file.
-fn run_file<S: Source, K: Sink, E: Sink, C: Clock + Send, R: Threads + Wait + Sync>(
+/// Runs the command of this order: only a run by clocks of its own takes the handle that allows waiting.
+fn run_order<S: Source, K: Sink, E: Sink, C: Clock + Send, R: Threads + Wait + Sync>(
     rt: &R,
     alloc: Global,
-    command: Command,
-    graph_file: GraphFile,
+    order: Order,
     source: &mut S,
     out: &mut K,
     notes: &mut E,
@@ -226,125 +195,86 @@ fn run_file<S: Source, K: Sink, E: Sink, C: Clock + Send, R: Threads + Wait + Sy
     blocks: &Blocks,
 ) -> Ending
     requires clocks { length clocks.old.items ≡ 16 }
-    requires few { graph_file.claims ≤ greatest_claims }
+    requires few { HasFewClaims (in_words order) }
+    requires number { MakesFew (in_words order) }
     ensures status { result.status ≡ status_of result.fault result.misses }
-    ensures asks { AsksFrom result.fault (S.contents source.old) blocks.now.listed.items
-        (file_in graph_file.entry) (actors_for command) [] (S.asked source.old)
-        (S.asked source.new) }
-    ensures due { IsDue (Some (over command (file_in graph_file.entry)))
+    ensures asks { AsksOf result.fault (Some (in_words order.entry))
+        (S.contents source.old) blocks.now.listed.items
+        (reading S.Source source.old source.new) }
+    ensures due { IsDue (Some (in_words order.entry))
         (S.contents source.old) blocks.now.listed.items
         (as_answer result.fault
-        (left_over result command (viewed C.readings C.ahead clocks.old.items)
+        (left_at result (Some (in_words order.entry)) (viewed C.readings C.ahead clocks.old.items)
         (viewed C.readings C.ahead clocks.new.items))
         (reading S.Source source.old source.new)
         (writing K.Sink out.old out.new)) }
     ensures clocks { result.fault ≢ Some Memory →
-        AreBackFor command result.fault clocks.old.items clocks.new.items }
+        AreBack (Some (in_words order.entry)) result.fault clocks.old.items clocks.new.items }
     ensures flushed { result.fault ≡ None → K.flushed out.new }
-    ensures notes { ReportsBy result.fault result.misses result.platforms.items
-        (Some (command, file_in graph_file.entry)) (S.contents source.old) blocks.now.listed.items
+    ensures notes { ReportsOf result.fault result.misses result.platforms.items
+        (Some (in_words order.entry)) (S.contents source.old) blocks.now.listed.items
         (writing E.Sink notes.old notes.new) }
     ensures reads { LeavesReads result.fault (S.faults source.old) (S.faults source.new) }
     ensures writes { LeavesWrites result.fault (K.faults out.old) (K.faults out.new) }
 {
-    match graph_at(alloc, source, graph_file, blocks) {
+    match own_run_of(order) {
+        Some(run) => run_by_own_clocks(rt, alloc, run, source, out, notes, clocks, blocks),
+        None => answer(alloc, order, source, out, notes, blocks),
+    }
+}
+
+/// Runs the graph in a file by clocks of its own.
+fn run_by_own_clocks<S: Source, K: Sink, E: Sink, C: Clock + Send, R: Threads + Wait + Sync>(
+    rt: &R,
+    alloc: Global,
+    run: OwnRun,
+    source: &mut S,
+    out: &mut K,
+    notes: &mut E,
+    clocks: &mut Vec<C>,
+    blocks: &Blocks,
+) -> Ending
+    requires clocks { length clocks.old.items ≡ 16 }
+    requires few { run.graph.claims ≤ greatest_claims }
+    ensures status { result.status ≡ status_of result.fault result.misses }
+    ensures asks { AsksFrom result.fault (S.contents source.old) blocks.now.listed.items
+        (file_in run.entry.graph) (λ g. g.actors) [] (S.asked source.old) (S.asked source.new) }
+    ensures due { IsDue (Some (over (command_of run.entry) (file_in run.entry.graph)))
+        (S.contents source.old) blocks.now.listed.items
+        (as_answer result.fault
+        (left_over result (command_of run.entry) (viewed C.readings C.ahead clocks.old.items)
+        (viewed C.readings C.ahead clocks.new.items))
+        (reading S.Source source.old source.new)
+        (writing K.Sink out.old out.new)) }
+    ensures clocks { result.fault ≢ Some Memory →
+        AreBackFor (command_of run.entry) result.fault clocks.old.items clocks.new.items }
+    ensures flushed { result.fault ≡ None → K.flushed out.new }
+    ensures notes { ReportsBy result.fault result.misses result.platforms.items
+        (Some (command_of run.entry, file_in run.entry.graph))
+        (S.contents source.old) blocks.now.listed.items
+        (writing E.Sink notes.old notes.new) }
+    ensures reads { LeavesReads result.fault (S.faults source.old) (S.faults source.new) }
+    ensures writes { LeavesWrites result.fault (K.faults out.old) (K.faults out.new) }
+{
+    match graph_at(alloc, source, run.graph, blocks) {
         Ok(graph) => {
-            run_command(
-                rt, alloc, command, graph, source, out, notes, clocks, blocks,
+            run_graph(
+                rt,
+                alloc,
+                run.workers,
+                run.clock,
+                run.log,
+                graph,
+                source,
+                out,
+                notes,
+                clocks,
+                blocks,
             )
         }
         Err(fault) => {
             let fault = report(alloc, notes, fault, None);
             Ending::refused(alloc, fault)
-        }
-    }
-}
-
-/// Runs a command on a graph.
-fn run_command<S: Source, K: Sink, E: Sink, C: Clock + Send, R: Threads + Wait + Sync>(
-    rt: &R,
-    alloc: Global,
-    command: Command,
-    graph: Graph,
-    source: &mut S,
-    out: &mut K,
-    notes: &mut E,
-    clocks: &mut Vec<C>,
-    blocks: &Blocks,
-) -> Ending
-    requires lawful { IsLawful graph }
-    requires clocks { length clocks.old.items ≡ 16 }
-    ensures status { result.status ≡ status_of result.fault result.misses }
-    ensures asks { AsksOver result.fault [] (actors_for command graph) [] (S.asked source.old)
-        (S.asked source.new) }
-    ensures due { UnlessMemory
-        (as_answer result.fault
-        (left_over result command (viewed C.readings C.ahead clocks.old.items)
-        (viewed C.readings C.ahead clocks.new.items))
-        (reading S.Source source.old source.new)
-        (writing K.Sink out.old out.new))
-        (IsDueFor command (S.contents source.old) graph []) }
-    ensures clocks { result.fault ≢ Some Memory →
-        AreBackFor command result.fault clocks.old.items clocks.new.items }
-    ensures flushed { result.fault ≡ None → K.flushed out.new }
-    ensures notes { Reports result.fault result.misses (Some graph)
-        (writing E.Sink notes.old notes.new) }
-    ensures reads { LeavesReads result.fault (S.faults source.old) (S.faults source.new) }
-    ensures writes { LeavesWrites result.fault (K.faults out.old) (K.faults out.new) }
-{
-    match command {
-        Command::Run {
-            workers,
-            clock,
-            log,
-        } => {
-            run_graph(
-                rt, alloc, workers, clock, log, graph, source, out, notes, clocks, blocks,
-            )
-        }
-        Command::Check => {
-            let answer = check_answer(alloc, &graph);
-            put_answer(alloc, answer, &graph, out, notes)
-        }
-        Command::Meaning => {
-            let answer = meaning_answer(alloc, source, &graph);
-            put_answer(alloc, answer, &graph, out, notes)
-        }
-        Command::Slacks => {
-            let answer = slacks_answer(alloc, &graph);
-            put_answer(alloc, answer, &graph, out, notes)
-        }
-    }
-}
-
-/// Puts a text on `out`, or reports its fault.
-fn put_answer<K: Sink, E: Sink>(
-    alloc: Global,
-    answer: Result<String, Fault>,
-    graph: &Graph,
-    out: &mut K,
-    notes: &mut E,
-) -> Ending
-    ensures status { result.status ≡ status_of result.fault result.misses }
-    ensures gives { PutsOrReports string_bytes answer result
-        (writing K.Sink out.old out.new) }
-    ensures flushed { result.fault ≡ None → K.flushed out.new }
-    ensures notes { Reports result.fault result.misses (Some graph.now)
-        (writing E.Sink notes.old notes.new) }
-    ensures writes { LeavesWrites result.fault (K.faults out.old) (K.faults out.new) }
-{
-    let text = match answer {
-        Ok(text) => text,
-        Err(fault) => {
-            let fault = report(alloc, notes, fault, Some(graph));
-            return Ending::refused(alloc, fault);
-        }
-    };
-    match put_text(out, text.as_str().as_bytes()) {
-        Ok(()) => Ending::done(Vec::new(alloc), Vec::new(alloc)),
-        Err(_) => {
-            report_write(notes);
-            Ending::refused(alloc, Fault::Write)
         }
     }
 }

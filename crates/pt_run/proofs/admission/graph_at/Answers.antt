@@ -7,7 +7,7 @@ use Rattle.pt_io.specs.Causes.{Rose}
 use Rattle.pt_run.specs.Due.{AfterFile, RefusesAsDue}
 use Rattle.pt_sensors.specs.Asked.{Asks}
 use Rattle.pt_sensors.proofs.Asking.{of_content}
-use Rattle.pt_run.proofs.Ending.{graph_fails, graph_unread}
+use Rattle.pt_run.proofs.Endings.{graph_fails, graph_unread}
 use Rattle.pt_run.proofs.admission.graph_at.Goals as goal
 use Rattle.pt_run.specs.GraphFiles.{graph_by, with_claims}
 use Rattle.pt_words.specs.Views.{file_in}

@@ -6,7 +6,7 @@ use Rattle.pt_run.specs.Texts.{left_by}
 use Rattle.pt_run.specs.Reporting.{paced_run}
 use Rattle.pt_run.specs.Written.{Leaves}
 use Rattle.pt_run.proofs.Asks.{asks_on, from_graph}
-use Rattle.pt_run.proofs.Ending.{has_nothing}
+use Rattle.pt_run.proofs.Endings.{has_nothing}
 use Rattle.pt_run.proofs.Stages.{audit_on_file, audit_past, graph_reported}
 use Rattle.pt_run.proofs.Reported.{reported_file}
 use Rattle.pt_run.proofs.audit.audit.Goals as goal

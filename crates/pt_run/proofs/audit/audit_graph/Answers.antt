@@ -7,7 +7,7 @@ use Rattle.pt_run.specs.Asks.{AsksOver}
 use Rattle.pt_run.specs.Due.{IsAudited, IsJudgedBy, UnlessMemory}
 use Rattle.pt_run.specs.Texts.{fault_in, left_by}
 use Rattle.pt_run.proofs.Asks.{given_asks, unplanned_asks}
-use Rattle.pt_run.proofs.Ending.{given_due}
+use Rattle.pt_run.proofs.Endings.{given_due}
 use Rattle.pt_run.proofs.Planned.{unplanned}
 use Rattle.pt_run.proofs.audit.audit_graph.Goals as goal
 

@@ -3,7 +3,7 @@ use Rattle.std.specs.declared.alloc.Global.{Global}
 use Rattle.pt_causality.specs.Ranked.{level_of}
 use Rattle.pt_run.specs.Due.{AfterOffsets, OnlyPuts}
 use Rattle.pt_run.specs.Written.{IsChecked}
-use Rattle.pt_run.proofs.Ending.{free_due}
+use Rattle.pt_run.proofs.Endings.{free_due}
 use Rattle.pt_run.proofs.check.check_answer.Goals as goal
 
 pub returns-in-Ok : goal.returns-in-Ok

@@ -1,7 +1,7 @@
 use Rattle.std.specs.Prelude.{string_bytes}
 use Rattle.pt_offsets.specs.Timings.{actor_offset_of, margin_in}
 use Rattle.pt_run.specs.Written.{IsChecked}
-use Rattle.pt_run.proofs.Ending.{checked_due}
+use Rattle.pt_run.proofs.Endings.{checked_due}
 use Rattle.pt_run.proofs.check.check_text.Goals as goal
 
 pub returns : goal.returns

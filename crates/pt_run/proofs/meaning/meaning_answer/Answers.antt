@@ -5,7 +5,7 @@ use Rattle.std.specs.Prelude.{string_bytes}
 use Rattle.pt_causality.specs.Ranked.{level_of}
 use Rattle.pt_sensors.specs.declared.recorded_fault.LateRows.TheVariants.{Taken}
 use Rattle.pt_run.specs.Due.{AfterRows, IsMeantBy}
-use Rattle.pt_run.proofs.Ending.{free_due}
+use Rattle.pt_run.proofs.Endings.{free_due}
 use Rattle.pt_run.proofs.meaning.meaning_answer.Goals as goal
 
 pub returns-in-Ok-clause-due : goal.returns-in-Ok-clause-due

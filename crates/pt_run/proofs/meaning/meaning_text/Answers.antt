@@ -8,7 +8,7 @@ use Rattle.pt_sensors.specs.Listed.{rows_for}
 use Rattle.pt_sensors.specs.declared.recorded_fault.LateRows.TheVariants.{Taken}
 use Rattle.pt_run.specs.Due.{AnswersAsDue, IsMeantBy, RefusedWith}
 use Rattle.pt_run.proofs.Asks.{meant_asks, rows_asked}
-use Rattle.pt_run.proofs.Ending.{read_due, rows_due}
+use Rattle.pt_run.proofs.Endings.{read_due, rows_due}
 use Rattle.pt_run.proofs.meaning.meaning_text.Goals as goal
 
 pub returns-clause-due : goal.returns-clause-due

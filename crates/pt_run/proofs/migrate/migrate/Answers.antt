@@ -6,7 +6,7 @@ use Rattle.pt_run.specs.Due.{Answer, IsDueTo}
 use Rattle.pt_run.specs.Texts.{left_by}
 use Rattle.pt_words.specs.Grammar.{migrate}
 use Rattle.pt_run.specs.Written.{leaves_nothing}
-use Rattle.pt_run.proofs.Ending.{has_nothing, reported_due}
+use Rattle.pt_run.proofs.Endings.{has_nothing, reported_due}
 use Rattle.pt_run.proofs.migrate.migrate.Goals as goal
 use Rattle.pt_words.specs.Views.{file_in}
 

@@ -3,7 +3,7 @@ use Rattle.pt_io.specs.Calls.{SourceCall, reading}
 use Rattle.pt_run.specs.declared.fault.Fault.TheVariants.{Memory}
 use Rattle.pt_run.specs.Due.{OnlyPuts, RefusedWith}
 use Rattle.pt_run.specs.Migrating.{IsMigrated}
-use Rattle.pt_run.proofs.Ending.{past_file, text_due}
+use Rattle.pt_run.proofs.Endings.{past_file, text_due}
 use Rattle.pt_run.proofs.GraphFiles.{usual_by}
 use Rattle.pt_run.proofs.migrate.migrated.Goals as goal
 use Rattle.pt_words.specs.Views.{file_in}

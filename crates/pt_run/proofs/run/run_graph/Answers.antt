@@ -5,6 +5,7 @@ use Rattle.pt_io.specs.Clocks.{viewed}
 use Rattle.pt_types.specs.declared.graph.Graph.{Graph}
 use Rattle.pt_run.specs.Asks.{AsksOver}
 use Rattle.pt_run.specs.Due.{HasRunBy}
+use Rattle.pt_run.specs.Prompt.{choice_of}
 use Rattle.pt_run.specs.Readings.{read_by}
 use Rattle.pt_run.specs.Texts.{stop_in}
 use Rattle.pt_run.proofs.Asks.{ended_asks, unplanned_asks}
@@ -15,16 +16,16 @@ pub returns-clause-due : goal.returns-clause-due
 returns-clause-due g c =
     let contents = g.S.Source.contents c.args.source.now in
     let plan = arc_value c.in-Ok.plan in
-    let before = read_by c.args.clock (viewed g.C.Clock.readings g.C.Clock.ahead c.args.clocks.now.items) in
-    let now = read_by c.args.clock (viewed g.C.Clock.readings g.C.Clock.ahead c.run_plan-ran.new.clocks.items) in
+    let before = read_by (choice_of c.args.clock) (viewed g.C.Clock.readings g.C.Clock.ahead c.args.clocks.now.items) in
+    let now = read_by (choice_of c.args.clock) (viewed g.C.Clock.readings g.C.Clock.ahead c.run_plan-ran.new.clocks.items) in
     let r : SourceCall = reading g.S.Source c.args.source.now c.run_plan-ran.new.source in
     let w : SinkCall = writing g.K.Sink c.args.out.now c.end_run.new.out in
-    ended_run c.args.workers c.args.clock c.args.log contents plan c.in-Ok.ensures.admitted r w c.args.graph c.in-Ok.ensures.plan c.run_plan-ran.result c.end_run.result before now c.run_plan-ran.ensures.ran c.run_plan-ran.ensures.stopped c.end_run.ensures.ended
+    ended_run c.args.workers (choice_of c.args.clock) c.args.log contents plan c.in-Ok.ensures.admitted r w c.args.graph c.in-Ok.ensures.plan c.run_plan-ran.result c.end_run.result before now c.run_plan-ran.ensures.ran c.run_plan-ran.ensures.stopped c.end_run.ensures.ended
 
 pub returns-clause-clocks : goal.returns-clause-clocks
 returns-clause-clocks g c = λ never.
     let w : SinkCall = writing g.K.Sink c.args.out.now c.end_run.new.out in
-    back c.run_plan-ran.result c.end_run.result w c.args.clock c.args.clocks.now.items c.run_plan-ran.new.clocks.items c.end_run.ensures.ended c.run_plan-ran.ensures.clocks never
+    back c.run_plan-ran.result c.end_run.result w (choice_of c.args.clock) c.args.clocks.now.items c.run_plan-ran.new.clocks.items c.end_run.ensures.ended c.run_plan-ran.ensures.clocks never
 
 pub returns-clause-asks : goal.returns-clause-asks
 returns-clause-asks g c =
@@ -42,5 +43,5 @@ returns-in-Err-clause-due g c =
     let contents = g.S.Source.contents c.args.source.now in
     let r : SourceCall = reading g.S.Source c.args.source.now c.args.source.now in
     let w : SinkCall = writing g.K.Sink c.args.out.now c.args.out.now in
-    let views = read_by c.args.clock (viewed g.C.Clock.readings g.C.Clock.ahead c.args.clocks.now.items) in
-    unplanned c.in-Err.ending c.args.graph c.in-Err.ensures.refused views views contents r w (HasRunBy c.args.workers c.args.clock c.args.log) refl
+    let views = read_by (choice_of c.args.clock) (viewed g.C.Clock.readings g.C.Clock.ahead c.args.clocks.now.items) in
+    unplanned c.in-Err.ending c.args.graph c.in-Err.ensures.refused views views contents r w (HasRunBy c.args.workers (choice_of c.args.clock) c.args.log) refl

@@ -4,6 +4,7 @@ use Rattle.pt_io.specs.Calls.{SourceCall, reading}
 use Rattle.pt_io.specs.Clocks.{viewed}
 use Rattle.pt_offsets.specs.Plans.{Parts}
 use Rattle.pt_run.specs.Asks.{AsksOver}
+use Rattle.pt_run.specs.Prompt.{choice_of}
 use Rattle.pt_run.specs.Runs.{LacksRows, read_with}
 use Rattle.pt_run.specs.Texts.{stop_in}
 use Rattle.pt_run.proofs.Asks.{memory_asked, outcome_asks, whole_asks}
@@ -17,7 +18,7 @@ returns-in-Err-clause-stopped g c =
     inl (subst (λ f. LacksRows f (g.S.Source.contents c.args.source.now) (arc_value c.args.plan.now) r) (sym c.with_nothing.ensures.fault) c.in-Err.ensures.fault, c.with_nothing.ensures.nothing)
 
 pub returns-in-Err-clause-clocks : goal.returns-in-Err-clause-clocks
-returns-in-Err-clause-clocks g c = λ never. back_unread c.args.clock (Some c.with_nothing.result.fault) c.args.clocks.now.items
+returns-in-Err-clause-clocks g c = λ never. back_unread (choice_of c.args.clock) (Some c.with_nothing.result.fault) c.args.clocks.now.items
 
 pub returns-in-Err-clause-asks : goal.returns-in-Err-clause-asks
 returns-in-Err-clause-asks g c =
@@ -26,18 +27,18 @@ returns-in-Err-clause-asks g c =
 pub returns-in-Ok-run_by-clause-ran : goal.returns-in-Ok-run_by-clause-ran
 returns-in-Ok-run_by-clause-ran g c =
     let r : SourceCall = reading g.S.Source c.args.source.now c.opened_of.new.source in
-    (run_of_outcome (g.S.Source.contents c.args.source.now) (read_with c.args.workers c.args.clock (viewed g.C.Clock.readings g.C.Clock.ahead c.args.clocks.now.items) (viewed g.C.Clock.readings g.C.Clock.ahead c.run_by.new.clocks.items)) (arc_value c.args.plan.now) c.args.log
+    (run_of_outcome (g.S.Source.contents c.args.source.now) (read_with c.args.workers (choice_of c.args.clock) (viewed g.C.Clock.readings g.C.Clock.ahead c.args.clocks.now.items) (viewed g.C.Clock.readings g.C.Clock.ahead c.run_by.new.clocks.items)) (arc_value c.args.plan.now) c.args.log
     c.in-Ok.platforms.items c.in-Ok-run_by.rounds.platforms.items c.in-Ok-run_by.rounds.fault c.outputs_of.result r c.in-Ok.ensures.opened c.in-Ok-run_by.ensures.outcome c.outputs_of.ensures.output c.outputs_of.ensures.stop).0
 
 pub returns-in-Ok-run_by-clause-stopped : goal.returns-in-Ok-run_by-clause-stopped
 returns-in-Ok-run_by-clause-stopped g c =
     let r : SourceCall = reading g.S.Source c.args.source.now c.opened_of.new.source in
-    (run_of_outcome (g.S.Source.contents c.args.source.now) (read_with c.args.workers c.args.clock (viewed g.C.Clock.readings g.C.Clock.ahead c.args.clocks.now.items) (viewed g.C.Clock.readings g.C.Clock.ahead c.run_by.new.clocks.items)) (arc_value c.args.plan.now) c.args.log
+    (run_of_outcome (g.S.Source.contents c.args.source.now) (read_with c.args.workers (choice_of c.args.clock) (viewed g.C.Clock.readings g.C.Clock.ahead c.args.clocks.now.items) (viewed g.C.Clock.readings g.C.Clock.ahead c.run_by.new.clocks.items)) (arc_value c.args.plan.now) c.args.log
     c.in-Ok.platforms.items c.in-Ok-run_by.rounds.platforms.items c.in-Ok-run_by.rounds.fault c.outputs_of.result r c.in-Ok.ensures.opened c.in-Ok-run_by.ensures.outcome c.outputs_of.ensures.output c.outputs_of.ensures.stop).1
 
 pub returns-in-Ok-run_by-clause-clocks : goal.returns-in-Ok-run_by-clause-clocks
 returns-in-Ok-run_by-clause-clocks g c = λ never.
-    back_run c.args.clock (stop_in c.outputs_of.result) c.args.clocks.now.items c.run_by.new.clocks.items
+    back_run (choice_of c.args.clock) (stop_in c.outputs_of.result) c.args.clocks.now.items c.run_by.new.clocks.items
     (stop_has_run c.in-Ok-run_by.rounds.fault c.in-Ok-run_by.rounds.platforms.items c.outputs_of.result c.outputs_of.ensures.stop never) c.in-Ok-run_by.ensures.clocks
 
 pub returns-in-Ok-run_by-clause-asks : goal.returns-in-Ok-run_by-clause-asks

@@ -2,7 +2,7 @@ use Rattle.std.specs.Prelude.{string_bytes}
 use Rattle.std.specs.declared.alloc.Global.{Global}
 use Rattle.pt_causality.specs.Ranked.{level_of}
 use Rattle.pt_run.specs.Due.{IsSlackedBy}
-use Rattle.pt_run.proofs.Ending.{free_due}
+use Rattle.pt_run.proofs.Endings.{free_due}
 use Rattle.pt_run.proofs.slacks.slacks_answer.Goals as goal
 
 pub returns-in-Ok : goal.returns-in-Ok

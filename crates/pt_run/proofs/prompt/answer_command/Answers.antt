@@ -1,15 +1,14 @@
 use Rattle.std.specs.Prelude.{string_bytes}
 use Rattle.pt_io.specs.Calls.{SourceCall, SinkCall, reading, writing}
+use Rattle.pt_words.specs.declared.orders.ClockChoice.TheVariants.{Paced}
 use Rattle.pt_words.specs.declared.orders.Command.{Command}
 use Rattle.pt_words.specs.declared.orders.Command.TheVariants.{Check, Meaning, Run, Slacks}
-use Rattle.pt_run.specs.Due.{IsDueFor, UnlessMemory}
-use Rattle.std.proofs.Common.{[], List, refl, subst, sym}
-use Rattle.pt_io.specs.Clocks.{ClockView, viewed}
-use Rattle.pt_run.specs.Clocks.{AreBackFor}
-use Rattle.pt_run.specs.Texts.{left_over}
+use Rattle.pt_run.specs.Due.{IsDueFor, UnlessMemory, answer_by}
+use Rattle.std.proofs.Common.{[], refl, subst, sym}
 use Rattle.pt_run.proofs.Asks.{asks_no_files, given_asks, of_command}
-use Rattle.pt_run.proofs.Ending.{given_due}
-use Rattle.pt_run.proofs.top.run_command.Goals as goal
+use Rattle.pt_run.proofs.Endings.{given_due}
+use Rattle.pt_run.proofs.Answering.{paced_command}
+use Rattle.pt_run.proofs.prompt.answer_command.Goals as goal
 
 pub returns-in-Check-clause-due : goal.returns-in-Check-clause-due
 returns-in-Check-clause-due g c =
@@ -42,19 +41,17 @@ returns-in-Slacks-clause-asks g c = rw c.in-Slacks.is (asks_no_files c.put_answe
 
 pub returns-in-Run : goal.returns-in-Run
 returns-in-Run g c =
-    let r : SourceCall = reading g.S.Source c.args.source.now c.run_graph.new.source in
-    let w : SinkCall = writing g.K.Sink c.args.out.now c.run_graph.new.out in
-    let before : List ClockView = viewed g.C.Clock.readings g.C.Clock.ahead c.args.clocks.now.items in
-    let now : List ClockView = viewed g.C.Clock.readings g.C.Clock.ahead c.run_graph.new.clocks.items in
+    let r : SourceCall = reading g.S.Source c.args.source.now c.run_paced_graph.new.source in
+    let w : SinkCall = writing g.K.Sink c.args.out.now c.run_paced_graph.new.out in
+    let is = paced_command c.args.command _ _ _ c.in-Run.is c.requires.prompt in
     record {
-      status = c.run_graph.ensures.status;
-      asks = of_command c.args.command (Run c.in-Run.workers c.in-Run.clock c.in-Run.log) c.run_graph.result.fault c.args.graph (g.S.Source.asked c.args.source.now) (g.S.Source.asked c.run_graph.new.source) c.in-Run.is c.run_graph.ensures.asks;
-      due = subst (λ (d : Command). UnlessMemory (record { fault = c.run_graph.result.fault; left = left_over c.run_graph.result d before now; read = r; wrote = w }) (IsDueFor d (g.S.Source.contents c.args.source.now) c.args.graph [])) (sym c.in-Run.is) c.run_graph.ensures.due;
-      clocks = λ never. subst (λ (d : Command). AreBackFor d c.run_graph.result.fault c.args.clocks.now.items c.run_graph.new.clocks.items) (sym c.in-Run.is) (c.run_graph.ensures.clocks never);
-      flushed = c.run_graph.ensures.flushed;
-      notes = c.run_graph.ensures.notes;
-      reads = c.run_graph.ensures.reads;
-      writes = c.run_graph.ensures.writes;
+      status = c.run_paced_graph.ensures.status;
+      asks = of_command c.args.command (Run c.in-Run.workers Paced c.in-Run.log) c.run_paced_graph.result.fault c.args.graph (g.S.Source.asked c.args.source.now) (g.S.Source.asked c.run_paced_graph.new.source) (sym is) c.run_paced_graph.ensures.asks;
+      due = subst (λ (d : Command). UnlessMemory (answer_by c.run_paced_graph.result r w) (IsDueFor d (g.S.Source.contents c.args.source.now) c.args.graph [])) is c.run_paced_graph.ensures.due;
+      flushed = c.run_paced_graph.ensures.flushed;
+      notes = c.run_paced_graph.ensures.notes;
+      reads = c.run_paced_graph.ensures.reads;
+      writes = c.run_paced_graph.ensures.writes;
     }
 
 pub returns-in-Check-clause-asks : goal.returns-in-Check-clause-asks
