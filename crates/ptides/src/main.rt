@@ -32,8 +32,8 @@ fn main(rt: HostRuntime) -> ExitCode {
         Function::new(dead5, Law::Deadband { width: 5 }),
         Function::new(mean, Law::Weighted { num: 1, den: 2 }),
     );
-    let Ok(blocks) = blocks else {
+    let Ok(mut blocks) = blocks else {
         return ExitCode::from(NO_MEMORY);
     };
-    ExitCode::from(run(&rt, &rt, &blocks))
+    ExitCode::from(run(&rt, &rt, &mut blocks))
 }

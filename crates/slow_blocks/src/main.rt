@@ -27,5 +27,5 @@ fn main(rt: HostRuntime) -> ExitCode {
     if fast.is_err() || long.is_err() {
         return ExitCode::from(NO_MEMORY);
     }
-    ExitCode::from(run(&rt, &rt, &blocks))
+    ExitCode::from(run(&rt, &rt, &mut blocks))
 }

@@ -1,0 +1,5 @@
+pub mod Adding
+pub mod Fetching
+pub mod Fitting
+pub mod Lines
+pub mod Option
