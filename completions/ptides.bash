@@ -14,12 +14,12 @@ _ptides_companions() { # WORD
 # Made by tools/make-companion-pages.py:
 _ptides_companion_options() { # NAME [KIND]
     case $1 in
-        bench) echo '-h --help --version --junit --update --jobs --timeout --claims --dask' ;;
-        dot) echo '-h --help --version' ;;
+        bench) echo '-h --help --version --junit --update --jobs --timeout --claims --blocks --dask' ;;
+        dot) echo '-h --help --version --blocks' ;;
         explain) echo '-h --help --version --line' ;;
-        lint) echo '-h --help --version --claims --strict' ;;
-        probe) echo '-h --help --version' ;;
-        report) echo '-h --help --version -o --output --clock --claims --zero --zone --title' ;;
+        lint) echo '-h --help --version --claims --blocks --strict' ;;
+        probe) echo '-h --help --version --blocks' ;;
+        report) echo '-h --help --version -o --output --clock --claims --blocks --zero --zone --title' ;;
         rows)
             case ${2-} in
                 candump) echo '-h --help --id --bytes --order --bits --signed --bus --period --phase --latency --last --scale --shift --round --zero --start --zone --from --to --row --claims -o' ;;
@@ -30,8 +30,8 @@ _ptides_companion_options() { # NAME [KIND]
                 *) echo '-h --help --version' ;;
             esac
             ;;
-        timing) echo '-h --help --version --markdown --only' ;;
-        wave) echo '-h --help --version --clock --workers --claims --vcd --csv --svg --trace --from --to --zero --zone --wall --no-inner' ;;
+        timing) echo '-h --help --version --markdown --only --blocks' ;;
+        wave) echo '-h --help --version --clock --workers --claims --blocks --vcd --csv --svg --trace --from --to --zero --zone --wall --no-inner' ;;
     esac
 }
 
@@ -52,15 +52,16 @@ _ptides_actors() { # FOLDER GRAPH
     )
 }
 
-# The graphs and folders that begin with the word, as seen from the folder that `-C` names; any files if there are none.
-_ptides_files() { # FOLDER WORD
+# The graphs, or files of another ending, and the folders that begin with the word, as seen from the folder that `-C` names; any files if
+# there are none.
+_ptides_files() { # FOLDER WORD [ENDING]
     (
         unset CDPATH
         cd -- "$1" 2>/dev/null || exit
-        graphs=$(compgen -f -X '!*.json' -- "$2")
+        files=$(compgen -f -X "!*.${3-json}" -- "$2")
         folders=$(compgen -d -- "$2")
-        if [[ $graphs$folders ]]; then
-            printf '%s\n' ${graphs:+"$graphs"} ${folders:+"$folders"}
+        if [[ $files$folders ]]; then
+            printf '%s\n' ${files:+"$files"} ${folders:+"$folders"}
         else
             compgen -f -- "$2"
         fi
@@ -74,7 +75,7 @@ _ptides_has_graph() { # INDEX OF THE COMMAND
         word=${COMP_WORDS[index]}
         # In `--workers=4` the `=` is a word of its own.
         [[ $word != = ]] || continue
-        [[ $word == -* || $before == --@(workers|claims) ]] || return 0
+        [[ $word == -* || $before == --@(workers|claims|blocks) ]] || return 0
         before=$word
     done
     return 1
@@ -111,7 +112,7 @@ _ptides() {
         )
         compopt -o filenames 2>/dev/null
     elif [[ $command == help ]]; then
-        mapfile -t COMPREPLY < <(compgen -W "run check meaning make migrate slacks audit replay $(_ptides_companions "${COMP_WORDS[0]}")" -- "$current")
+        mapfile -t COMPREPLY < <(compgen -W "run check meaning make migrate slacks audit replay formulas $(_ptides_companions "${COMP_WORDS[0]}")" -- "$current")
     elif [[ $before == --workers ]]; then
         mapfile -t COMPREPLY < <(compgen -W "$(seq 1 64)" -- "$current")
     elif [[ $before == --claims ]]; then
@@ -119,13 +120,16 @@ _ptides() {
     elif [[ $before == --clock ]]; then
         mapfile -t COMPREPLY < <(compgen -W 'machine paced step:' -- "$current")
         [[ ${COMPREPLY[*]} != step: ]] || compopt -o nospace 2>/dev/null
+    elif [[ $before == --blocks ]]; then
+        mapfile -t COMPREPLY < <(_ptides_files "$folder" "$current" blocks)
+        compopt -o filenames 2>/dev/null
     elif [[ $current == -* ]]; then
         case $command in
-            run) options='--workers --clock --log --claims' ;;
+            run) options='--workers --clock --log --claims --blocks' ;;
             make) options=--workers ;;
-            replay) options='--workers --log --claims' ;;
-            meaning | audit) options=--claims ;;
-            check | migrate | slacks) ;;
+            replay) options='--workers --log --claims --blocks' ;;
+            meaning | audit) options='--claims --blocks' ;;
+            check | migrate | slacks) options=--blocks ;;
             *) options=$(_ptides_companion_options "$command" "${COMP_WORDS[first + 1]}") ;;
         esac
         for option in $options; do

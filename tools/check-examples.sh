@@ -4,7 +4,8 @@
 #     tools/check-examples.sh [PROGRAM]        through ./ptides if no program is named
 #
 # An example is a folder examples/NAME, examples/idioms/NAME or examples/refused/NAME, with these files. A copy of it is run.
-#   words            the words, one a line; where there is none they are `run graph.json`
+#   words            the words, one a line; where there is none they are `run graph.json`. `--blocks FILE` in them is given to the other
+#                    commands too
 #   status           the status; where there is none it is 0
 #   to               where standard output goes; where there is none it is compared
 #   expected.csv     the standard output; where there is none, nothing may be written
@@ -82,12 +83,13 @@ make_files() { # NAME FOLDER
 }
 
 check_example() { # NAME FOLDER
-    local name=$1 folder=$2 words=(run graph.json) wanted=0 to
+    local name=$1 folder=$2 words=(run graph.json) blocks wanted=0 to
     copy=$work/copy
     rm -rf -- "$copy"
     cp -r -- "$folder" "$copy" && chmod -R u+rwX "$copy"
     make_files "$name" "$folder" || [ ! -e "$folder/make.py" ] || return
     [ ! -e "$folder/words" ] || mapfile -t words <"$folder/words"
+    mapfile -t blocks < <(blocks_of "$folder")
     [ ! -e "$folder/status" ] || wanted=$(<"$folder/status")
     if [ -e "$folder/to" ]; then
         to=$(<"$folder/to")
@@ -101,11 +103,11 @@ check_example() { # NAME FOLDER
     compare_status "$name" "$wanted"
     compare "$name: expected.notes" "$folder/expected.notes" "$work/notes"
     if [ -e "$folder/expected.csv" ]; then
-        start meaning graph.json
+        start meaning graph.json "${blocks[@]}"
         compare "$name: the meaning" "$folder/expected.csv" "$work/output"
     fi
     if [ -e "$folder/expected.log" ]; then
-        [ "${words[0]}" = replay ] || words=(run graph.json)
+        [ "${words[0]}" = replay ] || words=(run graph.json "${blocks[@]}")
         start "${words[@]}" --log
         compare_status "$name with --log" "$wanted"
         cat "$folder/expected.csv" "$folder/expected.log" >"$work/whole"
@@ -113,17 +115,17 @@ check_example() { # NAME FOLDER
         check_audit "$name"
     fi
     if [ -e "$folder/expected.check" ]; then
-        start check graph.json
+        start check graph.json "${blocks[@]}"
         compare_status "$name: check" 0
         compare "$name: expected.check" "$folder/expected.check" "$work/output"
     fi
     if [ -e "$folder/expected.migrate" ]; then
-        start migrate graph.json
+        start migrate graph.json "${blocks[@]}"
         compare_status "$name: migrate" 0
         compare "$name: expected.migrate" "$folder/expected.migrate" "$work/output"
     fi
     if [ -e "$folder/expected.slacks" ]; then
-        start slacks graph.json
+        start slacks graph.json "${blocks[@]}"
         compare_status "$name: slacks" 0
         compare "$name: expected.slacks" "$folder/expected.slacks" "$work/output"
     fi
@@ -134,7 +136,7 @@ check_example() { # NAME FOLDER
 
 # What the run wrote is a lawful log.
 check_audit() { # NAME
-    start audit graph.json "$work/whole"
+    start audit graph.json "$work/whole" "${blocks[@]}"
     compare_status "$1: audit" 0
     echo lawful >"$work/wanted"
     compare "$1: audit" "$work/wanted" "$work/output"
@@ -142,11 +144,11 @@ check_audit() { # NAME
 
 # The text of a graph says the same as its file, and is the text of itself.
 check_text() { # NAME TABLES
-    start migrate graph.json
+    start migrate graph.json "${blocks[@]}"
     mv -- "$work/output" "$copy/text.json"
-    start migrate text.json
+    start migrate text.json "${blocks[@]}"
     compare "$1: the text of its text" "$copy/text.json" "$work/output"
-    start meaning text.json
+    start meaning text.json "${blocks[@]}"
     compare "$1: the meaning of its text" "$2" "$work/output"
 }
 

@@ -16,8 +16,8 @@ import tempfile
 from jsonschema import Draft202012Validator
 
 EXAMPLES = "examples"
-# The refusals that a schema sees. Of a range it doesn't see that `low` is above `high`.
-SEEN = {"member", "too", "range", "name", "block"}
+# The refusals that a schema sees. Of a range it doesn't see that `low` is above `high`, and of a block not which formulas there are.
+SEEN = {"member", "too", "range", "name"}
 UNSEEN = {"graph_too_long", "range_of_a_row"}
 # The same of air files: of names only the graph knows which there are.
 AIR_SEEN = {"header", "form", "number"}

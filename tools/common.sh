@@ -9,6 +9,7 @@
 #   caller             the folder that the script was started in
 #   of_caller PATH     writes the path, which is meant from that folder, as one that begins with /
 #   make_work          makes a temporary folder, `work`, that is removed when the script ends, also by a signal
+#   blocks_of FOLDER   writes `--blocks` and its file, a line each, if the words of this example have them
 # Whatever CDPATH, TMPDIR and the language are, what a script does is the same. A script ends if it can't find its place or
 # make its folder.
 
@@ -34,6 +35,10 @@ of_caller() { # PATH
         /*) printf '%s\n' "$1" ;;
         *) printf '%s\n' "$caller/$1" ;;
     esac
+}
+
+blocks_of() { # FOLDER
+    [ ! -e "$1/words" ] || sed -n '/^--blocks$/{p;n;p;}' "$1/words"
 }
 
 # What was copied from a folder that can't be written can't be written either.

@@ -276,6 +276,17 @@ start_alone help run
 expect 'help on a command' '  run GRAPH                writes the events of each actuator' "$(head -n 1 "$place/output")"
 expect 'help on a command: its options' 1 "$(grep -c -e ' --clock CLOCK ' "$place/output")"
 expect 'help on a command: no other' 0 "$(grep -c -e '^  check GRAPH' "$place/output")"
+for word in run check replay; do
+    start_alone help "$word"
+    expect "help on $word: its formulas" 1 "$(grep -c -e '^  --blocks FILE ' "$place/output")"
+done
+start_alone help make
+expect 'help on make: no formulas' 0 "$(grep -c -e '^  --blocks FILE ' "$place/output")"
+start_alone help formulas
+expect 'help on formulas: status' 0 "$status"
+for word in not abs min max clamp scale if; do
+    expect "help on formulas: $word" 1 "$(grep -c -e "\\b$word(" "$place/output")"
+done
 start_alone help show kind
 expect 'help on a part of a companion' "shown:2 kind -h by $place/repo/dist/ptides"$'\nfolder:caller' "$(cat "$place/output")"
 for word in shwo showw sho; do

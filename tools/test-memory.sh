@@ -133,7 +133,7 @@ try_memory() { # WHAT WORD..
 }
 
 try_files() { # WHAT WORD..
-    local way read_fault='7 none other: read fault: (graph|sensor [A-Za-z0-9_]+|log|air)' most stride
+    local way read_fault='7 none other: read fault: (blocks|graph|sensor [A-Za-z0-9_]+|log|air)' most stride
     most=$(most_for "$1")
     stride=$(((counts[2] + most - 1) / most))
     for way in EACCES EMFILE ENOMEM; do
@@ -163,7 +163,7 @@ want() {
 }
 
 try_example() { # FOLDER
-    local folder=$1 name=${1#examples/} words=(run graph.json) status=0
+    local folder=$1 name=${1#examples/} words=(run graph.json) blocks status=0
     [ ! -e "$folder/to" ] || return
     rm -rf -- "$copy"
     cp -r -- "$folder" "$copy" && chmod -R u+rwX "$copy"
@@ -172,26 +172,27 @@ try_example() { # FOLDER
         (cd "$copy" && python3 ./make.py) || { fail "$name: make.py ends with a fault"; return; }
     fi
     [ ! -e "$folder/words" ] || mapfile -t words <"$folder/words"
+    mapfile -t blocks < <(blocks_of "$folder")
     [ ! -e "$folder/status" ] || status=$(<"$folder/status")
     want "$status" "$folder/expected.csv" "$folder/expected.notes"
     try "$name" "${words[@]}"
     if [ -e "$folder/expected.csv" ]; then
         want 0 "$folder/expected.csv" /dev/null
-        try "$name: the meaning" meaning graph.json
+        try "$name: the meaning" meaning graph.json "${blocks[@]}"
     fi
     if [ -e "$folder/expected.log" ]; then
         cat "$folder/expected.csv" "$folder/expected.log" >"$work/whole"
         want "$status" "$work/whole" "$folder/expected.notes"
-        [ "${words[0]}" = replay ] || words=(run graph.json)
+        [ "${words[0]}" = replay ] || words=(run graph.json "${blocks[@]}")
         try "$name with --log" "${words[@]}" --log
         echo lawful >"$work/lawful"
         cp -- "$work/whole" "$copy/whole.log"
         want 0 "$work/lawful" /dev/null
-        try "$name: audit" audit graph.json whole.log
+        try "$name: audit" audit graph.json whole.log "${blocks[@]}"
     fi
     if [ -e "$folder/expected.check" ]; then
         want 0 "$folder/expected.check" /dev/null
-        try "$name: check" check graph.json
+        try "$name: check" check graph.json "${blocks[@]}"
     fi
 }
 

@@ -73,8 +73,9 @@ class Case:
 
 
 def cases(tester, seed, count):
-    """Examples and random graphs. What a graph with other delays needs is in a folder of its own."""
-    for folder in [*testers.examples(), *testers.graphs(tester, seed, count)]:
+    """Examples and random graphs. What a graph with other delays needs is in a folder of its own. Formulas aren't worked out here."""
+    examples = [folder for folder in testers.examples() if not testers.blocks_of(folder)]
+    for folder in [*examples, *testers.graphs(tester, seed, count)]:
         yield Case(tester, folder)
 
 

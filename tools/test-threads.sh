@@ -76,16 +76,17 @@ judge() { # WHAT STATUS OUTPUT NOTES
 
 # The meaning of the graph in the folder `place`.
 take_meaning() {
-    (cd "$place" && exec "$program" meaning graph.json) >"$work/meaning" 2>/dev/null </dev/null
+    (cd "$place" && exec "$program" meaning graph.json "${blocks[@]}") >"$work/meaning" 2>/dev/null </dev/null
 }
 
 run_by() { # WORKERS
-    (cd "$place" && exec "$program" run graph.json --clock machine --workers "$1") >"$work/out" 2>"$work/notes" </dev/null
+    (cd "$place" && exec "$program" run graph.json "${blocks[@]}" --clock machine --workers "$1") >"$work/out" 2>"$work/notes" </dev/null
 }
 
 # Two platforms: on p s ──► d ──► w, on q r ──► f ──► out; and 50 rows, the last at half of the horizon.
 make_graph() { # UNTIL DELAY
     place=$work/graph.$1
+    blocks=()
     mkdir -p -- "$place"
     cat >"$place/graph.json" <<GRAPH
 {"ptides":1,"until":$1,"clock_error":5,
@@ -108,6 +109,7 @@ try_examples() {
     local folder until workers k
     for folder in examples/*/ examples/idioms/*/; do
         place=$top/${folder%/}
+        mapfile -t blocks < <(blocks_of "$place")
         if [ ! -e "$place/graph.json" ] || [ -e "$place/make.py" ] || [ -e "$place/to" ]; then
             continue
         fi

@@ -12,6 +12,7 @@ from pathlib import Path
 from typing import Any, Iterator
 
 from ptides import attempts, companion
+from ptides.formulas.option import file_in
 from ptides.program import Fault
 from ptides.scenarios import Outcome, Scenario, outcome_of
 
@@ -21,9 +22,10 @@ LONGEST_WAIT = 60
 
 def packed(scenario: Scenario) -> tuple[dict[str, bytes], str]:
     """The files of a scenario that its words and its graph name, by their paths below a common folder, and where the scenario is in it."""
-    here = os.path.abspath(scenario.folder)
-    # A log or an air file is a word too.
-    paths = [os.path.join(here, word) for word in dict.fromkeys([scenario.graph(), *scenario.words[1:]])]
+    here = os.path.realpath(scenario.folder)
+    blocks = file_in(scenario.words)
+    # A log or an air file is a word too, and a file of formulas may be part of one.
+    paths = [os.path.join(here, word) for word in dict.fromkeys([scenario.graph(), *scenario.words[1:], *([blocks.path] if blocks else [])])]
     try:
         actors = json.loads(Path(paths[0]).read_text(encoding="utf-8"))["actors"]
         paths += [os.path.join(here, actor["file"]) for actor in actors if actor.get("kind") == "sensor"]

@@ -6,7 +6,7 @@ import re
 import subprocess
 from collections import Counter
 from dataclasses import dataclass, field
-from typing import IO, Any, NamedTuple, Optional
+from typing import IO, Any, NamedTuple, Optional, Sequence
 
 from ptides import limits, program
 from ptides.program import Fault
@@ -97,18 +97,26 @@ def most_counted(claims: int) -> int:
     return min(limits.MOST_CLAIMS, max(MOST_COUNTED, TIMES * claims))
 
 
-def counted(graph: dict[str, Any], until: int, most: int, first: int = 0, width: int = 0) -> Optional[Firings]:
-    """The firings up to a time, in parts of equal length from `first` on; nothing if a platform makes more than `most`."""
-    found = Firings(until, first, width or until // PARTS + 1)
-    command = [program.find_program(), "run", "/dev/stdin", "--log", *limits.words_of(most)]
-    text = json.dumps({**graph, "until": until}).encode()
-    with subprocess.Popen(command, stdin=subprocess.PIPE, stdout=subprocess.PIPE, stderr=subprocess.DEVNULL) as running:
-        read_all(found, running.stdin, running.stdout, text)
-    if running.returncode in TOO_LONG:
-        return None
-    if running.returncode not in (0, 5):
-        raise Fault(f"the run ends with status {running.returncode}")
-    return found
+@dataclass(frozen=True)
+class Runs:
+    """Runs of a graph whose firings are counted: how many a platform may make in one, and the words that name the blocks of the graph."""
+
+    graph: dict[str, Any]
+    most: int
+    blocks: Sequence[str] = ()
+
+    def counted(self, until: int, first: int = 0, width: int = 0) -> Optional[Firings]:
+        """The firings up to a time, in parts of equal length from `first` on; nothing if a platform makes more than it may."""
+        found = Firings(until, first, width or until // PARTS + 1)
+        command = [program.find_program(), "run", "/dev/stdin", *self.blocks, "--log", *limits.words_of(self.most)]
+        text = json.dumps({**self.graph, "until": until}).encode()
+        with subprocess.Popen(command, stdin=subprocess.PIPE, stdout=subprocess.PIPE, stderr=subprocess.DEVNULL) as running:
+            read_all(found, running.stdin, running.stdout, text)
+        if running.returncode in TOO_LONG:
+            return None
+        if running.returncode not in (0, 5):
+            raise Fault(f"the run ends with status {running.returncode}")
+        return found
 
 
 def read_all(found: Firings, source: Optional[IO[bytes]], log: Optional[IO[bytes]], text: bytes) -> None:
@@ -123,12 +131,12 @@ def read_all(found: Firings, source: Optional[IO[bytes]], log: Optional[IO[bytes
     found.read(log)
 
 
-def fits(graph: dict[str, Any], found: Firings, claims: int, most: int) -> Optional[Fits]:
+def fits(runs: Runs, found: Firings, claims: int) -> Optional[Fits]:
     """The greatest horizon that fits, of firings that are more than a platform may make; nothing if even the first events make more."""
     part = found.first_past(claims)
     start = part * found.width
     # The same up to the end of that part, in which each microsecond is a part of its own.
-    fine = counted(graph, min(found.until, start + found.width - 1), most, start, 1)
+    fine = runs.counted(min(found.until, start + found.width - 1), start, 1)
     if fine is None:
         return None
     number = fine.first_past(claims)

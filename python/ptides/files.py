@@ -14,12 +14,12 @@ from ptides.program import Fault
 AIR = ["what", "name", "value"]
 
 
-def readable(path: Union[str, os.PathLike], what: str) -> str:
+def readable(path: Union[str, os.PathLike], what: str = "") -> str:
     """The whole path of a file that can be read; `what` is what the user gave it for."""
     path = os.fspath(path)
     wrong = errno.ENOENT if not os.path.exists(path) else errno.EISDIR if os.path.isdir(path) else 0 if os.access(path, os.R_OK) else errno.EACCES
     if wrong:
-        raise Fault(f"{what}: cannot read {path}: {os.strerror(wrong)}")
+        raise Fault(f"{what}{': ' if what else ''}cannot read {path}: {os.strerror(wrong)}")
     return os.path.abspath(path)
 
 

@@ -6,10 +6,10 @@ from __future__ import annotations
 
 import re
 from bisect import bisect_left, bisect_right
-from typing import Any, NamedTuple, Optional
+from typing import Any, NamedTuple, Optional, Sequence
 
 from ptides import counting, limits, program
-from ptides.counting import Firings
+from ptides.counting import Firings, Runs
 from ptides.files import records_of
 
 # Parts are of whole seconds, if they have this many microseconds or more.
@@ -86,38 +86,38 @@ class Sources:
         return low
 
 
-def longest(graph: dict[str, Any], claims: int) -> Optional[Horizon]:
-    """What fits of a run in which a platform makes more firings than its claims. Nothing if that can't be found.
+def longest(graph: dict[str, Any], claims: int, blocks: Sequence[str] = ()) -> Optional[Horizon]:
+    """What fits of a run in which a platform makes more firings than its claims. Nothing if that can't be found. `blocks` are the words that
+    name the blocks of the graph.
 
     The claims are counted in the log of a run with far more of them. If the whole run is too long for that too, it is counted up to an
     earlier time, and how many events come from outside up to then says how many firings the whole run makes.
     """
     try:
-        return search(graph, Sources(graph), claims)
+        return search(Runs(graph, counting.most_counted(claims), blocks), Sources(graph), claims)
     except (OSError, ValueError, LookupError, program.Fault):
         return None
 
 
-def search(graph: dict[str, Any], sources: Sources, claims: int) -> Optional[Horizon]:
+def search(runs: Runs, sources: Sources, claims: int) -> Optional[Horizon]:
     """The same, with the events that come from outside."""
-    most = counting.most_counted(claims)
-    found = past(graph, sources, claims, most)
+    found = past(runs, sources, claims)
     if found is None:
         return None
-    whole = whole_of(graph, sources, found, most)
-    fits = counting.fits(graph, found, claims, most)
+    whole = whole_of(runs, sources, found)
+    fits = counting.fits(runs, found, claims)
     return Horizon(fits, whole, sources.parts(sources.count(fits.until)) if fits else None)
 
 
-def past(graph: dict[str, Any], sources: Sources, claims: int, most: int) -> Optional[Firings]:
+def past(runs: Runs, sources: Sources, claims: int) -> Optional[Firings]:
     """The firings up to a time at which a platform has made more than its claims, and none more than are counted."""
     total = sources.count(sources.until)
     # Most events from outside make each actor fire once at most.
-    events, too_many = min(total, most // max(1, len(graph["actors"]))), total + 1
+    events, too_many = min(total, runs.most // max(1, len(runs.graph["actors"]))), total + 1
     for _ in range(20):
         if not 0 < events < too_many:
             break
-        found = counting.counted(graph, sources.until if events == total else sources.time_of(events), most)
+        found = runs.counted(sources.until if events == total else sources.time_of(events))
         if found is None:
             events, too_many = events // 4, events
         elif found.most() > claims:
@@ -127,11 +127,11 @@ def past(graph: dict[str, Any], sources: Sources, claims: int, most: int) -> Opt
     return None
 
 
-def whole_of(graph: dict[str, Any], sources: Sources, found: Firings, most: int) -> Whole:
+def whole_of(runs: Runs, sources: Sources, found: Firings) -> Whole:
     """The firings of the whole run, of which these are a part, or all; they are counted if they aren't too many for that."""
     share = sources.count(sources.until) / max(1, sources.count(found.until))
-    if found.until < sources.until and found.most() * share <= most:
-        whole = counting.counted(graph, sources.until, most)
+    if found.until < sources.until and found.most() * share <= runs.most:
+        whole = runs.counted(sources.until)
         found, share = (found, share) if whole is None else (whole, 1)
     is_counted = found.until >= sources.until
     return Whole(*(round(number * (1 if is_counted else share)) for number in (found.most(), sum(found.totals().values()))), is_counted)
@@ -147,9 +147,9 @@ def claims_line(whole: Whole) -> str:
     return f"or allow more firings: with `--claims {max(whole.most, limits.USUAL_CLAIMS + 1)}` the whole run fits; {takes}"
 
 
-def advice(graph: dict[str, Any], claims: int) -> list[str]:
+def advice(graph: dict[str, Any], claims: int, blocks: Sequence[str] = ()) -> list[str]:
     """What helps against a run that is too long: the horizon that fits, how many claims it needs, and the parts in which the recording goes."""
-    found, until = longest(graph, claims), graph["until"]
+    found, until = longest(graph, claims, blocks), graph["until"]
     if found is None:
         return ["lower `until`, raise periods, give fewer rows, or allow more firings by `--claims`"]
     lines = []
@@ -164,9 +164,9 @@ def advice(graph: dict[str, Any], claims: int) -> list[str]:
     return [*lines, "or raise periods, give fewer rows, or leave actors out, probes too"]
 
 
-def with_advice(refused: program.Refused, graph: dict[str, Any], claims: int, companion: str) -> program.Refused:
+def with_advice(refused: program.Refused, graph: dict[str, Any], claims: int, companion: str, blocks: Sequence[str] = ()) -> program.Refused:
     """The refusal; of a run that is too long its notes go on with what helps, as said by a companion. What `explain` has found isn't looked for again."""
     if refused.status == 6:
         known = re.findall(r"^ *= help: (.*)$", refused.explanation, re.MULTILINE)
-        refused.notes += "".join(f"ptides {companion}: {line}\n" for line in known or advice(graph, claims))
+        refused.notes += "".join(f"ptides {companion}: {line}\n" for line in known or advice(graph, claims, blocks))
     return refused

@@ -26,6 +26,8 @@ MOST_GRAPH = 1 << 21
 
 # What each line is about: the first form that fits a line gives its place.
 PLACES = [(re.compile(form), place) for form, place in [
+    (r"blocks: (line \d+(?: column \d+)?):", r"blocks \1"),
+    (r"read fault: blocks", "blocks"),
     (r"graph: .* at (top|(?:platform|actor|wire|link|clock error) \d+)", r"\1"),
     (r"graph: unfed (actor \d+ input \d+)", r"\1"),
     (r"graph: infeasible (\w+),", r"actor \1"),

@@ -17,6 +17,7 @@ import pytest
 import ptides as package
 from ptides import limits, misses, program, tables
 from ptides.attempts import Result as Answer, attempts
+from ptides.formulas.option import BlocksFile
 from ptides.program import Fault, find_program
 from ptides.records import Event
 from ptides.scenarios import STORED, Difference, Scenario, first_difference, no_answer, outcome_of, scenario_of, store, word_meanings
@@ -36,7 +37,15 @@ def pytest_addoption(parser: pytest.Parser) -> None:
     group.addoption("--ptides-update", action="store_true", help="store what the scenarios give, instead of comparing it")
     group.addoption("--ptides-claims", type=limits.number, default=limits.USUAL_CLAIMS, metavar="N",
                     help=f"how many claims a platform may make ({limits.USUAL_CLAIMS})")
+    group.addoption("--ptides-blocks", metavar="FILE", help="a file of formulas for each scenario whose words name none")
     group.addoption("--ptides-timeout", type=float, default=600.0, metavar="SECONDS", help="the longest time for one command (600)")
+
+
+def scenario_in(folder: Path, config: pytest.Config) -> Scenario:
+    """The scenario of a folder, with what the options say; a path is one from where pytest was started."""
+    blocks = config.getoption("--ptides-blocks")
+    file = BlocksFile(str(config.invocation_params.dir / blocks), blocks) if blocks else None
+    return scenario_of(folder, config.getoption("--ptides-claims"), file)
 
 
 def has_expectations(folder: Path) -> bool:
@@ -59,7 +68,7 @@ class ScenarioFile(pytest.File):
     @cached_property
     def scenario(self) -> Scenario:
         """The scenario of the folder."""
-        return scenario_of(self.path.parent, self.config.getoption("--ptides-claims"))
+        return scenario_in(self.path.parent, self.config)
 
     @cached_property
     def answers(self) -> list[Answer]:
@@ -138,7 +147,7 @@ class Margins(Test):
             return
         if self.scenario.fault:
             raise Fault(self.scenario.fault)
-        done = program.run(["check", self.scenario.graph()], folder=self.scenario.folder)
+        done = program.run(self.scenario.check(), folder=self.scenario.folder)
         below = [f"  {each.actor}: {each.margin}" for each in tables.margins_of(done.output) if each.margin is not None and each.margin < 0]
         if below and self.scenario.status != 5:
             raise Differs("\n".join(["margins below 0: each event of these is missed", *below, "`ptides timing` says what may change"]))
@@ -183,8 +192,8 @@ def pytest_terminal_summary(terminalreporter: Any) -> None:
 class Tried:
     """A scenario as a test has it: `result` is what it gives, `expected` what is stored, and `run` runs it with other sensors."""
 
-    def __init__(self, folder: Path, claims: int):
-        self.scenario = scenario_of(folder, claims)
+    def __init__(self, scenario: Scenario):
+        self.scenario = scenario
         if self.scenario.fault:
             raise Fault(self.scenario.fault)
 
@@ -197,6 +206,7 @@ class Tried:
         """Runs it, with these sensors instead of those in its folder."""
         words = word_meanings(self.scenario.words)
         options: dict[str, Any] = {"folder": self.folder, "sensors": sensors, "claims": words.claims}
+        options["blocks"] = self.folder / words.blocks if words.blocks else None
         if words.command == "replay":
             return package.replay(self.folder / words.graph, self.folder / words.other, **options)
         if words.command != "run":
@@ -231,4 +241,4 @@ def scenario(request: pytest.FixtureRequest) -> Tried:
     folder = request.path.parent / getattr(request, "param", ".")
     if not any((folder / name).is_file() for name in ("graph.json", "words")):
         pytest.fail(f"{folder} is no scenario: it has neither graph.json nor words", pytrace=False)
-    return Tried(folder, request.config.getoption("--ptides-claims"))
+    return Tried(scenario_in(folder, request.config))

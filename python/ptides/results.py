@@ -6,6 +6,7 @@ from functools import cached_property
 from typing import TYPE_CHECKING, Any, Iterator, Mapping, Optional, Union
 
 from ptides import frames, limits
+from ptides.formulas.option import BlocksFile
 from ptides.graphs import Placed
 from ptides.logs import Entry, entries_of
 from ptides.misses import Miss, misses_of
@@ -26,15 +27,16 @@ class Result:
 
     `status` is 0, or 5 if a deadline was missed. `output` is all that the program wrote, which `audit` takes; `notes` are the lines
     on standard error. `zero` is the wall time of 0, if a sensor has such times or its file has one beside it, or if it was stated. Times are
-    microseconds from 0. `graph` is the graph as it ran, `claims` how many claims a platform could make, and `probes` says which output each
-    actuator watches that was added.
+    microseconds from 0. `graph` is the graph as it ran, `claims` how many claims a platform could make, `blocks` the text of its file of
+    formulas, if it had one, and `probes` says which output each actuator watches that was added.
 
     `result["valve"]` is what the actuator `valve` did, as a pandas Series by time.
     """
 
-    def __init__(self, done: Done, placed: Placed, claims: Optional[int] = None):
+    def __init__(self, done: Done, placed: Placed, claims: Optional[int] = None, blocks: Optional[BlocksFile] = None):
         self.status, self.output, self.notes = done.status, done.output, done.notes.splitlines()
         self._zero, self.graph, self.probes, self.claims = placed.zero, placed.graph, placed.probes, limits.claims_of(claims)
+        self.blocks = blocks.read() if blocks else None
         self._tables, self._log = parts_of(done.output)
         self._has_log = "\nlog\n" in done.output
 

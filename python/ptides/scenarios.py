@@ -7,6 +7,7 @@ from __future__ import annotations
 
 import argparse
 import difflib
+import os
 import re
 from concurrent.futures import ThreadPoolExecutor
 from dataclasses import dataclass, field
@@ -15,6 +16,8 @@ from typing import Iterable, Iterator, NamedTuple, NoReturn, Optional, Sequence
 
 from ptides import limits
 from ptides.attempts import Result, attempts
+from ptides.formulas.option import BlocksFile, file_in, words_of
+from ptides.graphs import word_of
 from ptides.program import COMMANDS, Fault
 
 USUAL = "graph.json"
@@ -45,8 +48,12 @@ class Scenario:
         if self.fault:
             return []
         with_log = [[*self.words, "--log"]] if "expected.log" in self.stored else []
-        with_check = [["check", self.graph()]] if "expected.check" in self.stored else []
+        with_check = [self.check()] if "expected.check" in self.stored else []
         return [self.words, *with_log, *with_check]
+
+    def check(self) -> list[str]:
+        """The words that ask for the margins of its graph."""
+        return ["check", self.graph(), *words_of(file_in(self.words))]
 
     def graph(self) -> str:
         """The word that names the graph."""
@@ -112,15 +119,16 @@ def read(path: Path) -> str:
         raise Fault(f"cannot read {path}: {fault.strerror}")
 
 
-def scenario_of(folder: Path, claims: int = limits.USUAL_CLAIMS) -> Scenario:
+def scenario_of(folder: Path, claims: int = limits.USUAL_CLAIMS, blocks: Optional[BlocksFile] = None) -> Scenario:
     """The scenario in a folder. One that can't be used is a scenario too, with its fault: the others are run.
 
-    `claims` is how many claims a platform may make, if its words don't say that.
+    `claims` is how many claims a platform may make, and `blocks` its file of formulas, if its words don't say that.
     """
     scenario = Scenario(str(folder), folder, ["run", "graph.json"])
     try:
         fill(scenario)
         allow(scenario, claims)
+        give(scenario, blocks)
     except Fault as fault:
         scenario.fault = str(fault)
     return scenario
@@ -132,6 +140,13 @@ def allow(scenario: Scenario, claims: int) -> None:
     if scenario.words[0] in limits.COMMANDS and not says:
         # Behind `--` there are no options.
         scenario.words[1:1] = limits.words_of(claims)
+
+
+def give(scenario: Scenario, blocks: Optional[BlocksFile]) -> None:
+    """Gives it this file of formulas, unless the words name one. The path is seen from its folder, so that it is one on a cluster too."""
+    says = any(word == "--blocks" or word.startswith("--blocks=") for word in scenario.words)
+    if blocks and scenario.words[0] != "make" and not says:
+        scenario.words[1:1] = ["--blocks", word_of(Path(os.path.realpath(blocks.path)), Path(os.path.realpath(scenario.folder)))]
 
 
 def fill(scenario: Scenario) -> None:
@@ -153,7 +168,7 @@ def fill(scenario: Scenario) -> None:
             scenario.stored[name] = read(folder / name)
 
 
-def scenarios_of(folders: Iterable[str], claims: int = limits.USUAL_CLAIMS) -> list[Scenario]:
+def scenarios_of(folders: Iterable[str], claims: int = limits.USUAL_CLAIMS, blocks: Optional[BlocksFile] = None) -> list[Scenario]:
     """The scenarios of these folders and of all below them, each once, in the order of their names."""
     found: dict[Path, None] = {}
     for folder in folders:
@@ -163,7 +178,7 @@ def scenarios_of(folders: Iterable[str], claims: int = limits.USUAL_CLAIMS) -> l
         if not inside:
             raise Fault(f"{folder}: no scenario in it: a scenario is a folder with `words` or `graph.json`")
         found.update(dict.fromkeys(inside))
-    return [scenario_of(folder, claims) for folder in found]
+    return [scenario_of(folder, claims, blocks) for folder in found]
 
 
 def first_difference(file: str, expected: str, found: str) -> Optional[Difference]:
@@ -251,6 +266,7 @@ class Meaning(NamedTuple):
     clock: str
     workers: Optional[int]
     claims: Optional[int]
+    blocks: Optional[str] = None
 
 
 class Words(argparse.ArgumentParser):
@@ -264,7 +280,7 @@ def word_meanings(words: Sequence[str]) -> Meaning:
     """What these words ask for.
 
         >>> word_meanings(["run", "../../graph.json", "--clock", "step:0:50"])
-        Meaning(command='run', graph='../../graph.json', other='', clock='step:0:50', workers=None, claims=None)
+        Meaning(command='run', graph='../../graph.json', other='', clock='step:0:50', workers=None, claims=None, blocks=None)
     """
     parser = Words(add_help=False, allow_abbrev=False)
     parser.add_argument("names", nargs="*")
@@ -272,6 +288,7 @@ def word_meanings(words: Sequence[str]) -> Meaning:
     parser.add_argument("--clock", default="paced")
     parser.add_argument("--workers", type=int)
     parser.add_argument("--claims", type=limits.number)
+    parser.add_argument("--blocks")
     found = parser.parse_intermixed_args(list(words))
     command, graph, other, *_ = [*found.names, "", "", ""]
-    return Meaning(command, graph, other, found.clock, found.workers, found.claims)
+    return Meaning(command, graph, other, found.clock, found.workers, found.claims, found.blocks)

@@ -7,7 +7,7 @@ import shutil
 import tempfile
 from pathlib import Path
 
-from counted import EXAMPLES, GRAPHS, REFUSED, Case, companion, copied, main, make_files, ptides, run
+from counted import EXAMPLES, GRAPHS, REFUSED, Case, blocks_of, companion, copied, main, make_files, ptides, run
 
 COUNTS = """BEGIN {int clusters = 0; int nodes = 0; int edges = 0; int dashed = 0; int red = 0; graph_t part}
 N {nodes++} N [color == "red"] {red++} E {edges++} E [style == "dashed"] {dashed++}
@@ -25,9 +25,9 @@ class Dot(Case):
         for example in GRAPHS:
             with self.subTest(example=example.name):
                 graph = json.loads((example / "graph.json").read_text())
-                margins = [row.split(",")[2] for row in ptides("check", "graph.json", folder=example).output.splitlines()[1:]]
+                margins = [row.split(",")[2] for row in ptides("check", "graph.json", *blocks_of(example), folder=example).output.splitlines()[1:]]
                 below = sum(margin.startswith("-") and margin != "-" for margin in margins)
-                done = companion("dot", "graph.json", folder=example)
+                done = companion("dot", "graph.json", *blocks_of(example), folder=example)
                 self.assertEqual((done.status, done.notes), (0, ""))
                 counted = run(["gvpr", COUNTS], example, done.output)
                 links = len(graph["links"])
@@ -91,12 +91,12 @@ class Dot(Case):
             "ptides": 1, "until": 100, "clock_error": 0, "platforms": ["p", "q"], "actors": ends,
             "wires": [["receive_p", 0, "send_p", 0], ["receive_q", 0, "send_q", 0]],
             "links": [{"from": "send_p", "to": "receive_q", "delay": 5}, {"from": "send_q", "to": "receive_p", "delay": 5}]})
-        cases = [ring, delayed.replace("DELAY", "0"), delayed.replace("DELAY", "1"), links]
-        cases += [(each / "graph.json").read_text() for each in GRAPHS]
-        for number, text in enumerate(cases):
+        cases = [(text, []) for text in (ring, delayed.replace("DELAY", "0"), delayed.replace("DELAY", "1"), links)]
+        cases += [((each / "graph.json").read_text(), blocks_of(each)) for each in GRAPHS]
+        for number, (text, blocks) in enumerate(cases):
             with self.subTest(number=number):
-                program = ptides("check", "/dev/stdin", folder=EXAMPLES, given=text)
-                picture = companion("dot", "/dev/stdin", folder=EXAMPLES, given=text)
+                program = ptides("check", "/dev/stdin", *blocks, folder=EXAMPLES, given=text)
+                picture = companion("dot", "/dev/stdin", *blocks, folder=EXAMPLES, given=text)
                 instant = run(["gvpr", "-c", INSTANT], EXAMPLES, picture.output)
                 found = run(["acyclic", "-n"], EXAMPLES, instant.output)
                 self.assertEqual(found.status == 1, program.notes.startswith("graph: cycle "), found.notes)

@@ -15,7 +15,7 @@ import pythons
 
 sys.path.insert(0, str(pythons.PACKAGE))
 
-from counted import EXAMPLES, GRAPHS, Case, companion, main  # noqa: E402
+from counted import EXAMPLES, GRAPHS, Case, blocks_in, companion, main  # noqa: E402
 
 import ptides  # noqa: E402
 from ptides import inner, probes  # noqa: E402
@@ -33,16 +33,16 @@ class Signals(Case):
         """What each output of the graph in a folder gives; the graphs that were run are kept."""
         def ask(graph: dict[str, Any]) -> str:
             self.asked.append(graph)
-            return ptides.run(graph, folder=folder).output
+            return ptides.run(graph, folder=folder, blocks=blocks_in(folder)).output
 
         self.asked = []
-        result = ptides.run(folder)
+        result = ptides.run(folder, blocks=blocks_in(folder))
         claims = Counter(entry.actor for entry in result.entries() if entry.what == "claim")
         return inner.inner_signals(result.graph, claims, ask, **options)
 
     def wanted(self, folder: Path) -> dict[probes.Output, list[inner.Value]]:
         """The same by one run of the whole graph with all probes."""
-        result = ptides.run(folder, probes=True)
+        result = ptides.run(folder, probes=True, blocks=blocks_in(folder))
         return inner.watched_values(result.output, result.probes)
 
     def chain(self, names: str, rows: int) -> Path:

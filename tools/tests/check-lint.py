@@ -6,7 +6,7 @@ import shutil
 import tempfile
 from pathlib import Path
 
-from counted import EXAMPLES, GRAPHS, Case, companion, main
+from counted import EXAMPLES, GRAPHS, Case, blocks_of, companion, main
 
 GRAPH = """{"ptides":1,"until":1000,"clock_error":0,
  "platforms":["p"],
@@ -81,7 +81,7 @@ class Lint(Case):
         that have nothing to do in a good run: the test stand gives no warning and needs no cooler, and the relay has no fault."""
         for example in GRAPHS:
             with self.subTest(example=example.name):
-                done = companion("lint", "graph.json", folder=example)
+                done = companion("lint", "graph.json", *blocks_of(example), folder=example)
                 if example.name == "missed":
                     self.assertIn("margin -101: `valve`", done.output)
                     self.assertTrue(done.output.endswith("\n1 warning\n"))

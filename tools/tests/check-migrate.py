@@ -4,7 +4,7 @@ from __future__ import annotations
 
 import json
 
-from counted import GRAPHS, TOP, Case, main, ptides
+from counted import GRAPHS, TOP, Case, blocks_of, main, ptides
 
 # Refusals that speak of the graph as a whole, of the rows or of the run: the file itself is a graph.
 OTHER_FAULTS = ("cycle", "infeasible", "late_row", "long_meaning", "long_run", "no_sensor_file", "sensor_fields")
@@ -23,9 +23,9 @@ class Migrate(Case):
         for folder in [*GRAPHS, *(TOP / "examples" / "refused" / name for name in OTHER_FAULTS)]:
             with self.subTest(folder=folder.name):
                 wanted = text_of(json.loads((folder / "graph.json").read_text()))
-                done = ptides("migrate", "graph.json", folder=folder)
+                done = ptides("migrate", "graph.json", *blocks_of(folder), folder=folder)
                 self.assertEqual((done.status, done.notes, done.output), (0, "", wanted))
-                again = ptides("migrate", "/dev/stdin", folder=folder, given=done.output)
+                again = ptides("migrate", "/dev/stdin", *blocks_of(folder), folder=folder, given=done.output)
                 self.assertEqual((again.status, again.output), (0, wanted))
 
 

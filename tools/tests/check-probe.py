@@ -4,7 +4,7 @@ from __future__ import annotations
 
 import json
 
-from counted import EXAMPLES, GRAPHS, Case, companion, main, ptides
+from counted import EXAMPLES, GRAPHS, Case, blocks_of, companion, main, ptides
 
 
 class Probe(Case):
@@ -12,15 +12,16 @@ class Probe(Case):
 
     def probed(self, folder, *words, given=None):
         """The probed graph, and its run."""
-        graph = companion("probe", "/dev/stdin" if given else "graph.json", *words, folder=folder, given=given)
+        blocks = blocks_of(folder)
+        graph = companion("probe", "/dev/stdin" if given else "graph.json", *words, *blocks, folder=folder, given=given)
         self.assertEqual((graph.status, graph.notes), (0, ""))
-        return json.loads(graph.output), ptides("run", "/dev/stdin", folder=folder, given=graph.output)
+        return json.loads(graph.output), ptides("run", "/dev/stdin", *blocks, folder=folder, given=graph.output)
 
     def test_other_tables(self) -> None:
         """Of each example: status, notes and tables are as before, and each output has a table more."""
         for example in GRAPHS:
             with self.subTest(example=example.name):
-                before = ptides("run", "graph.json", folder=example)
+                before = ptides("run", "graph.json", *blocks_of(example), folder=example)
                 graph, after = self.probed(example)
                 old = json.loads((example / "graph.json").read_text())
                 outputs = sum({"send": 0, "actuator": 0, "machine": each.get("outputs"), "lanes": len(each.get("cells", []))}.get(each["kind"], 1)
@@ -29,7 +30,7 @@ class Probe(Case):
                 self.assertEqual(after._replace(output=after.output[:len(before.output)]), before)
                 new = {line.split(",")[0] for line in after.output[len(before.output):].splitlines()}
                 self.assertLessEqual(new, {actor["name"] for actor in graph["actors"][len(old["actors"]):]})
-                self.assertEqual(ptides("meaning", "/dev/stdin", folder=example, given=json.dumps(graph)).output, after.output)
+                self.assertEqual(ptides("meaning", "/dev/stdin", *blocks_of(example), folder=example, given=json.dumps(graph)).output, after.output)
 
     def test_signals(self) -> None:
         """The governor measures 98, 104 and 97, and its errors are -2, 4 and -3, half a millisecond later at `hold`."""

@@ -71,6 +71,19 @@ class Plugin(Case):
         done = subprocess.run([sys.executable, "-m", "pytest", *words], cwd=self.folder, env=around, capture_output=True, text=True, check=False)
         return Done(done.returncode, done.stdout, done.stderr)
 
+    def test_formulas(self) -> None:
+        """A scenario may name its file of formulas, or has the one of the option, also for its margins and in its fixture."""
+        self.copy("slip")
+        (self.folder / "slip" / "test_slip.py").write_text("def test_shown(scenario):\n    assert list(scenario['shown'])[4] == 153\n")
+        done = self.pytest("-vv")
+        self.assertEqual((done.status, "slip/graph.json::margins PASSED" in done.output, "::test_shown PASSED" in done.output), (0, True, True), done.output)
+        (self.folder / "slip" / "words").unlink()
+        (self.folder / "slip" / "slip.blocks").rename(self.folder / "other.blocks")
+        self.assertEqual(self.pytest().status, 1)
+        for option in (["--ptides-blocks", "other.blocks"], ["--ptides-blocks=other.blocks"]):
+            done = self.pytest(*option)
+            self.assertEqual(done.status, 0, done.output)
+
     def test_examples(self) -> None:
         """Each example passes, and has the tests that its files ask for."""
         self.copy("governor", "missed", "network", "stand", "clocks")

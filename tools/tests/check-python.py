@@ -17,7 +17,7 @@ import pythons
 pythons.prefer("pandas")
 sys.path.insert(0, str(pythons.PACKAGE))
 
-from counted import EXAMPLES, GRAPHS, REFUSED, TOP, Case, copied, example_words, main, ptides as program  # noqa: E402
+from counted import EXAMPLES, GRAPHS, REFUSED, TOP, Case, blocks_in, copied, example_words, main, ptides as program  # noqa: E402
 
 import ptides  # noqa: E402
 from ptides import tables, wall_time  # noqa: E402
@@ -40,13 +40,14 @@ class Plain(Case):
                 continue
             stored = (folder / "expected.csv").read_text()
             with self.subTest(example=folder.name):
-                result = ptides.run(folder)
+                blocks = blocks_in(folder)
+                result = ptides.run(folder, blocks=blocks)
                 self.assertEqual(result.events, {**dict.fromkeys(result.actuators, []), **tables.events_of(stored)})
                 self.assertEqual(result.output.split("log\n")[0], stored)
-                self.assertEqual(ptides.meaning(folder / "graph.json").events, result.events)
+                self.assertEqual(ptides.meaning(folder / "graph.json", blocks=blocks).events, result.events)
                 expected = folder / "expected.check"
                 if expected.exists():
-                    self.assertEqual(ptides.check(folder), tables.margins_of(expected.read_text()))
+                    self.assertEqual(ptides.check(folder, blocks=blocks), tables.margins_of(expected.read_text()))
 
     def test_rooms_and_misses(self) -> None:
         """By hand: the governor's margins are 299 and 549; the boiler's valve is 101 late, and what `rooms` says is what is missed."""
@@ -57,7 +58,7 @@ class Plain(Case):
             with self.subTest(example=folder.name):
                 for clock in ("paced", ("step", 0, 150)):
                     try:
-                        result = ptides.run(folder, clock=clock)
+                        result = ptides.run(folder, clock=clock, blocks=blocks_in(folder))
                     except ptides.Refused:
                         continue
                     late = sorted((room.actor, room.time, room.step, room.reading) for room in result.rooms if room.room < 0)
@@ -170,9 +171,9 @@ class Plain(Case):
         for folder in GRAPHS:
             with self.subTest(example=folder.name):
                 if (folder / "expected.slacks").exists():
-                    self.assertEqual(ptides.slacks(folder), tables.slacks_of((folder / "expected.slacks").read_text()))
+                    self.assertEqual(ptides.slacks(folder, blocks=blocks_in(folder)), tables.slacks_of((folder / "expected.slacks").read_text()))
                 if (folder / "expected.log").exists() and example_words(folder)[0] == "run":
-                    self.assertTrue(ptides.audit(folder, ptides.run(folder)))
+                    self.assertTrue(ptides.audit(folder, ptides.run(folder, blocks=blocks_in(folder))))
         verdict = ptides.audit(EXAMPLES / "refused" / "log_link", EXAMPLES / "refused" / "log_link" / "run.log")
         self.assertEqual((bool(verdict), verdict.line), (False, "unlawful: link w"))
         self.assertIn("`r` takes `80,0,8` at line 23", verdict.explanation)

@@ -22,7 +22,7 @@ sys.path.insert(0, str(pythons.PACKAGE))
 
 import browser  # noqa: E402
 import papers  # noqa: E402
-from counted import EXAMPLES, GRAPHS, TOP, Case, Done, companion, copied, main, ptides  # noqa: E402
+from counted import EXAMPLES, GRAPHS, TOP, Case, Done, blocks_of, companion, copied, main, ptides  # noqa: E402
 
 from ptides.reporting import series  # noqa: E402
 
@@ -77,8 +77,8 @@ class Report(Case):
         """Of each example: the status of the run, each actor with its events, and nothing from elsewhere."""
         for folder in GRAPHS:
             with self.subTest(example=folder.name):
-                wanted = ptides("run", "graph.json", folder=folder)
-                done, page = self.report("graph.json", folder=folder)
+                wanted = ptides("run", "graph.json", *blocks_of(folder), folder=folder)
+                done, page = self.report("graph.json", *blocks_of(folder), folder=folder)
                 self.assertEqual((done.status, done.output, done.notes), (wanted.status, "", ""))
                 graph = json.loads((folder / "graph.json").read_text())
                 signals = [each for each in coded(page)["signals"] if each["group"] == "trends"]

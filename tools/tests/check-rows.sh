@@ -150,11 +150,12 @@ VERILOG
 
 # What wave writes of the rows that were seen gives the rows again: stamps and values; and the times, by the rule.
 check_there_and_back() {
-    local folder name platform sensor file
+    local folder name platform sensor file blocks
     for folder in "$top"/examples/*/; do
         name=$(basename "$folder")
         [ -e "$folder/graph.json" ] || continue
-        (cd -- "$folder" && "$top/tools/ptides-wave" graph.json --vcd "$work/$name.vcd" 2>/dev/null)
+        mapfile -t blocks < <(blocks_of "$folder")
+        (cd -- "$folder" && "$top/tools/ptides-wave" graph.json "${blocks[@]}" --vcd "$work/$name.vcd" 2>/dev/null)
         while read -r platform sensor file; do
             "$rows" vcd "$name.vcd" --signal "seen.$platform.$sensor" --latency 0 2>/dev/null | cut -d , -f 2,3 >found
             cut -d , -f 2,3 "$folder/$file" >wanted

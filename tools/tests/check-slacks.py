@@ -14,7 +14,7 @@ import sys
 from pathlib import Path
 from typing import Any
 
-from counted import EXAMPLES, GRAPHS, Case, main, ptides
+from counted import EXAMPLES, GRAPHS, Case, blocks_of, main, ptides
 
 FOLDERS = [Path(folder) for folder in sys.argv[1:]]
 # The greatest time that a graph file can state.
@@ -72,9 +72,12 @@ def with_slacks(given: Graph, slacks: dict[str, int]) -> Graph:
 class Slacks(Case):
     """The least slacks of graphs."""
 
+    # The words that name the formulas of the graph.
+    blocks: list[str] = []
+
     def ask(self, command: str, given: Graph) -> Any:
         """What a command says of a graph."""
-        return ptides(command, "/dev/stdin", folder=ANY, given=json.dumps(given))
+        return ptides(command, "/dev/stdin", *self.blocks, folder=ANY, given=json.dumps(given))
 
     def slacks(self, given: Graph) -> dict[str, int]:
         """What `slacks` writes."""
@@ -108,7 +111,7 @@ class Slacks(Case):
 
     def check_file(self, file: Path) -> bool:
         """The same of a file, if it is a graph that has slacks."""
-        done = ptides("slacks", file, folder=ANY)
+        done = ptides("slacks", file, *self.blocks, folder=ANY)
         if done.status == 0:
             self.check_least(json.loads(file.read_text()))
         return done.status == 0
@@ -117,6 +120,7 @@ class Slacks(Case):
         """Of each example, and of one that `check` refuses."""
         for folder in [*GRAPHS, EXAMPLES / "refused" / "infeasible"]:
             with self.subTest(folder=folder.name):
+                self.blocks = blocks_of(folder)
                 self.assertTrue(self.check_file(folder / "graph.json"))
 
     def test_files(self) -> None:

@@ -5,7 +5,7 @@ from __future__ import annotations
 import csv
 import json
 
-from counted import EXAMPLES, GRAPHS, Case, companion, main, ptides
+from counted import EXAMPLES, GRAPHS, Case, blocks_of, companion, main, ptides
 
 
 def raised(graph, number, of, by):
@@ -24,18 +24,19 @@ def raised(graph, number, of, by):
 
 class Timing(Case):
     """The two tables."""
+    blocks: list[str] = []
 
     def ask(self, text):
-        """Status, margins below 0, offsets."""
-        done = ptides("check", "/dev/stdin", folder=EXAMPLES, given=text)
+        """Status, margins below 0, offsets; by the formulas of the example that is looked at."""
+        done = ptides("check", "/dev/stdin", *self.blocks, folder=EXAMPLES, given=text)
         rows = [row.split(",") for row in done.output.splitlines()[1:]]
         return done.status, {name for name, _, margin in rows if margin.startswith("-") and margin != "-"}, {name: offset for name, offset, _ in rows}
 
     def test_growth(self) -> None:
         """Of each number of each example, asked of `check` itself."""
         for example in GRAPHS:
-            graph = json.loads((example / "graph.json").read_text())
-            done = companion("timing", "--only", "growth", "graph.json", folder=example)
+            graph, self.blocks = json.loads((example / "graph.json").read_text()), blocks_of(example)
+            done = companion("timing", "--only", "growth", "graph.json", *self.blocks, folder=example)
             self.assertEqual((done.status, done.notes), (0, ""))
             base = self.ask(json.dumps(graph))
             rows = list(csv.DictReader(done.output.splitlines()))

@@ -26,10 +26,11 @@ stored() { # FILE
 }
 
 check_example() { # FOLDER
-    local name wanted=0 status
+    local name wanted=0 status blocks=()
     name=$(basename "$1")
     [ ! -e "$1/status" ] || wanted=$(<"$1/status")
-    (cd -- "$1" && "$wave" graph.json --vcd "$work/e.vcd" --csv "$work/e.csv" --svg "$work/e.svg" 2>"$work/notes")
+    mapfile -t blocks < <(blocks_of "$1")
+    (cd -- "$1" && "$wave" graph.json "${blocks[@]}" --vcd "$work/e.vcd" --csv "$work/e.csv" --svg "$work/e.svg" 2>"$work/notes")
     status=$?
     equal "$name: status" "$wanted" "$status"
     equal "$name: notes" "$(stored "$1/expected.notes")" "$(<notes)"

@@ -10,7 +10,7 @@ import sys
 import xml.etree.ElementTree as trees
 from typing import Any
 
-from counted import EXAMPLES, GRAPHS, TOP, copied, main, ptides, run
+from counted import EXAMPLES, GRAPHS, TOP, blocks_of, copied, main, ptides, run
 from shown import SVG, WaveCase, records
 
 
@@ -180,7 +180,7 @@ class Waves(WaveCase):
         """The trace of each example keeps to the rules of its format, and has each event of the table."""
         for example in GRAPHS:
             with self.subTest(example=example.name):
-                done = self.wave("graph.json", "--trace", str(self.folder / "t.json"), "--csv", str(self.folder / "t.csv"), folder=example)
+                done = self.wave("graph.json", *blocks_of(example), "--trace", str(self.folder / "t.json"), "--csv", str(self.folder / "t.csv"), folder=example)
                 trace = json.loads((self.folder / "t.json").read_text())
                 self.check_trace(trace)
                 table = records((self.folder / "t.csv").read_text())
@@ -201,7 +201,7 @@ class Waves(WaveCase):
         for number, example in enumerate(GRAPHS):
             folder = self.folder / str(number)
             folder.mkdir()
-            self.wave("graph.json", "--csv", str(folder / "drive.csv"), folder=example)
+            self.wave("graph.json", *blocks_of(example), "--csv", str(folder / "drive.csv"), folder=example)
             script += [f"os.chdir({str(folder)!r})", recipe, f"assert not [name for name in numbers if str(table[name].dtype) != 'Int64'], {example.name!r}"]
         (self.folder / "recipe.py").write_text("\n".join(script))
         done = run([python, "recipe.py"], self.folder)

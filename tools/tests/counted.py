@@ -44,6 +44,17 @@ def example_words(folder: Path) -> list[str]:
     return (folder / "words").read_text().splitlines() if (folder / "words").exists() else ["run", "graph.json"]
 
 
+def blocks_of(folder: Path) -> list[str]:
+    """`--blocks FILE`, if the words of an example have it; the path is one from any folder."""
+    words = example_words(folder)
+    return ["--blocks", str(folder / words[words.index("--blocks") + 1])] if "--blocks" in words else []
+
+
+def blocks_in(folder: Path) -> Optional[str]:
+    """The file of formulas of an example, if it has one."""
+    return "".join(blocks_of(folder)[1:]) or None
+
+
 def copied(folder: Path, target: Path) -> Path:
     """A copy of the files of a folder that can be written to, whatever the rights of the folder."""
     target.mkdir(exist_ok=True)

@@ -20,6 +20,11 @@ passed=0
 failed=0
 skipped=0
 
+# The option of the formulas that an example has, a word each line: its `words` name their file.
+blocks_of() { # FOLDER
+    [ ! -e "$1/words" ] || sed -n '/^--blocks$/{p;n;p;}' "$1/words"
+}
+
 pass() {
     passed=$((passed + 1))
 }

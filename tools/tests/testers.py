@@ -18,7 +18,7 @@ class Tester:
 
     def call(self, folder, *words):
         """The output, the notes and the status of a command."""
-        done = subprocess.run([self.program, *words], cwd=folder, stdin=subprocess.DEVNULL, capture_output=True, timeout=MOST_SECONDS)
+        done = subprocess.run([self.program, *words, *blocks_of(folder)], cwd=folder, stdin=subprocess.DEVNULL, capture_output=True, timeout=MOST_SECONDS)
         return done.stdout, done.stderr.decode("utf-8", "replace"), done.returncode
 
     def fail(self, what, data=None):
@@ -43,6 +43,17 @@ def module(name):
     found = importlib.util.module_from_spec(specification)
     specification.loader.exec_module(found)
     return found
+
+
+def blocks_of(folder):
+    """`--blocks FILE`, if the words of an example have it."""
+    path = os.path.join(folder, "words")
+    if not os.path.exists(path):
+        return []
+    with open(path, encoding="ascii") as file:
+        words = file.read().splitlines()
+    at = words.index("--blocks") if "--blocks" in words else len(words)
+    return words[at:at + 2]
 
 
 def examples():

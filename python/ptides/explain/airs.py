@@ -143,7 +143,7 @@ def past_a_bound(words: list[str], path: str, data: bytes) -> str:
     source, file = Source(path, data.decode("utf-8", errors="replace")), plain_words(words)[2]
     root = read_json(source, data)
     try:
-        spot = None if isinstance(root, Finding) else Air(file, Graph(source, root), limits.claims_in(words)).breach()
+        spot = None if isinstance(root, Finding) else Air(file, Graph(source, root, words), limits.claims_in(words)).breach()
     except (LookupError, ValueError, StopIteration, OSError):
         spot = None
     if not spot:

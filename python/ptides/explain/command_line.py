@@ -11,12 +11,11 @@ from typing import Callable, Optional
 from ptides import limits
 from ptides.explain.findings import Finding, Source, Spot, a, near
 from ptides.explain.graph import Graph
+from ptides.formulas.option import VALUED, is_file
 
 CLOCKS = "`paced`, `machine` or `step:START:STEP` in microseconds, as `step:0:1`, START from 0 and STEP from 1, to 10^15"
-COMMANDS = {"run": ["--workers", "--clock", "--log", "--claims"], "check": [], "meaning": ["--claims"], "make": ["--workers"], "migrate": [], "slacks": [],
-            "audit": ["--claims"], "replay": ["--workers", "--log", "--claims"]}
-# Those that have a value.
-VALUED = ("--workers", "--clock", "--claims")
+COMMANDS = {"run": ["--workers", "--clock", "--log", "--claims", "--blocks"], "check": ["--blocks"], "meaning": ["--claims", "--blocks"], "make": ["--workers"],
+            "migrate": ["--blocks"], "slacks": ["--blocks"], "audit": ["--claims", "--blocks"], "replay": ["--workers", "--log", "--claims", "--blocks"]}
 
 
 def plain_words(words: list[str]) -> list[str]:
@@ -50,7 +49,8 @@ def is_clock(value: str) -> bool:
 # What is a value of each option, and how it is said.
 VALUES: dict[str, tuple[Callable[[str], bool], str]] = {
     "--workers": (lambda value: re.fullmatch("[1-9]|[1-5][0-9]|6[0-4]", value) is not None, "a number from 1 to 64, as 4"),
-    "--clock": (is_clock, CLOCKS), "--claims": (limits.is_number, f"a number from {limits.USUAL_CLAIMS} to {limits.MOST_CLAIMS}, as 4000000")}
+    "--clock": (is_clock, CLOCKS), "--claims": (limits.is_number, f"a number from {limits.USUAL_CLAIMS} to {limits.MOST_CLAIMS}, as 4000000"),
+    "--blocks": (bool, "the path of a file of formulas; after `=` it may begin with `-`")}
 
 
 def usage(words: list[str]) -> Finding:
@@ -70,7 +70,7 @@ def usage(words: list[str]) -> Finding:
         elif option in VALUED:
             index, value = (index, value) if equals else (index + 1, "".join(words[index + 1:index + 2]))
             is_value, wanted = VALUES[option]
-            if not is_value(value):
+            if not is_value(value) or option == "--blocks" and not is_file(value, bool(equals)):
                 return at_word(words, index, f"no value of `{option}`", f"`{option}` takes {wanted}")
         seen.append(option)
         index += 1

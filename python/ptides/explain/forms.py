@@ -9,7 +9,6 @@ from ptides.explain.findings import shown
 from ptides.explain.json_text import Node
 
 PARTS = {"platform": "platforms", "actor": "actors", "wire": "wires", "link": "links", "clock error": "clock_errors"}
-BLOCKS = ["least", "greatest", "clip100", "dead5", "mean"]
 # The limits of the arrays in versions 1 and 2.
 LIMITS = {"platforms": (16, 16), "actors": (256, 1024), "wires": (1024, 4096), "links": (64, 64), "clock errors": (120, 120),
           "rows": (64, 64), "cells": (1024, 1024)}

@@ -2,12 +2,13 @@
 from __future__ import annotations
 
 import re
-from typing import Optional
+from typing import Optional, Sequence
 
 from ptides import program
 from ptides.explain.findings import Finding, Source, Spot, listed
 from ptides.explain.forms import ACTOR, BLOCK, KINDS, LIST, NAMES, PARTS, ROW, SHAPES, TOP, Leaf, Shape, from_to, leaves_of
 from ptides.explain.json_text import Node
+from ptides.formulas.option import file_in, formulas_in, words_of
 
 # A part of the text, and what is put there instead.
 Change = tuple[int, int, str]
@@ -15,8 +16,11 @@ Change = tuple[int, int, str]
 class Graph:
     """The graph of a text, and its parts with their places."""
 
-    def __init__(self, source: Source, root: Node):
+    def __init__(self, source: Source, root: Node, words: Sequence[str] = ()):
         self.source, self.root = source, root
+        # The words of a command name the blocks that there are beside those of the program.
+        blocks = file_in(words) if words else None
+        self.blocks, self.formulas = words_of(blocks), formulas_in(blocks)
         self.second = root.get("ptides").whole() == 2
         self.parts = {part: root.get(key).items() for part, key in PARTS.items()}
         self.actors, self.wires, self.links = self.parts["actor"], self.parts["wire"], self.parts["link"]
@@ -89,13 +93,13 @@ class Graph:
         return found + [(f"cell {index}", cell, from_to(1, 8)) for index, cell in enumerate(node.get("cells").items())]
 
 
-def check(text: str) -> program.Done:
-    """What `check` answers of the text of a graph."""
-    return program.run(["check", "/dev/stdin"], given=text)
+def check(graph: Graph, *changes: Change) -> program.Done:
+    """What `check` answers of the graph with these parts replaced."""
+    return program.run(["check", "/dev/stdin", *graph.blocks], given=graph.edited(*changes))
 
 
 def checked(graph: Graph, *changes: Change) -> str:
     """What `check` does with these parts of the graph replaced."""
-    done = check(graph.edited(*changes))
+    done = check(graph, *changes)
     below = [row.split(",")[0] for row in done.output.splitlines() if re.search(",-[0-9]+$", row)]
     return f"says `{done.line}`" if done.status else "answers 0" + (f", with a margin below 0 for {listed(below)}" if below else "")

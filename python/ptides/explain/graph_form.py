@@ -5,7 +5,7 @@ import re
 from typing import Any, Optional
 
 from ptides.explain.findings import Finding, Spot, a, count, first, listed, near, shown
-from ptides.explain.forms import ACTOR, BLOCKS, EMIT, FILES, KINDS, LIMITS, VALUES, VERSION_2, WHOLE, Form, Shape, better_number, wrong_name
+from ptides.explain.forms import ACTOR, EMIT, FILES, KINDS, LIMITS, VALUES, VERSION_2, WHOLE, Form, Shape, better_number, wrong_name
 from ptides.explain.graph import Graph
 from ptides.explain.json_text import Node
 
@@ -140,8 +140,8 @@ def repeated(graph: Graph, part: str, node: Node) -> Finding:
 
 
 def unknown(graph: Graph, part: str, node: Node) -> Optional[Finding]:
-    """The name that no platform, actor or block has."""
-    pools = {"platform": [each.text() for each in graph.parts["platform"]], "actor": graph.names, "block": BLOCKS}
+    """The name that no platform or actor has."""
+    pools = {"platform": [each.text() for each in graph.parts["platform"]], "actor": graph.names}
     for _, leaf, form in graph.leaves(part, node):
         pool = pools.get(form.pool, [leaf.value])
         if leaf.kind == "a text" and leaf.text() not in pool:

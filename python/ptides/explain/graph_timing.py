@@ -12,7 +12,7 @@ from ptides.explain.json_text import Node
 
 def after(graph: Graph, line: str, *changes: Change) -> str:
     """What `check` says after a change; nothing if it says the same line still, or that the change isn't allowed."""
-    done, subject = check(graph.edited(*changes)), " ".join(line.split()[:3]).rstrip(",")
+    done, subject = check(graph, *changes), " ".join(line.split()[:3]).rstrip(",")
     if done.status == 0:
         return ": then `check` answers 0"
     is_next = re.match("graph: (infeasible|cycle) ", done.line) and not done.line.startswith(subject)
@@ -52,7 +52,7 @@ def ring(graph: Graph, line: str) -> Finding:
                (node.get("delay").start, node.get("delay").end, str(int(node.get("delay").value) - int(gain))))
               for node in around if int(node.get("delay").value) >= int(gain)]
     answers = [text + ": then `slacks` answers 0" for text, change in offers
-               if program.run(["slacks", "/dev/stdin"], given=graph.edited(change)).status == 0]
+               if program.run(["slacks", "/dev/stdin", *graph.blocks], given=graph.edited(change)).status == 0]
     return graph.found(around[0], f"around the links of {names.replace(' ', ', ')} the slacks that are needed grow by {gain}",
                       "delays on the way that make up for the links, their clock errors and 1 for each link",
                       f"raise the delays between these links by {gain} in all", *answers, notes=[graph.spot(each, "and this link") for each in around[1:]])
@@ -80,7 +80,7 @@ def infeasible(graph: Graph, line: str) -> Finding:
 
     # What sets the offset is what makes it grow.
     more = f"graph: infeasible {sender}, offset {int(offset) + 1},"
-    guilty = [each for each in bounds if check(graph.edited(change(each[1], 1))).line.startswith(more)]
+    guilty = [each for each in bounds if check(graph, change(each[1], 1)).line.startswith(more)]
     raised = [(f"the slack of `{sender}`", graph.actor(sender).get("slack")), *delays]
     offers = [(f"raise {text} from {each.value} to {int(each.value) + short}", [change(each, short)]) for text, each in raised]
     offers.append((f"put a `delay` of {short} between `{last}` and `{sender}`", with_delay(graph, into, short)))
@@ -94,7 +94,7 @@ def infeasible(graph: Graph, line: str) -> Finding:
 
 def margins(graph: Graph, names: list[str], *changes: Change) -> dict[str, int]:
     """The margins of these actuators after a change."""
-    table = [row.split(",") for row in check(graph.edited(*changes)).output.splitlines()]
+    table = [row.split(",") for row in check(graph, *changes).output.splitlines()]
     return {name: int(margin) for name, _, margin in table if name in names and margin != "-"}
 
 
@@ -151,7 +151,7 @@ def better_clock(graph: Graph, words: list[str]) -> list[str]:
         return [f"a smaller STEP makes platforms look more often; {paced}"]
     while step > least:
         for clock in dict.fromkeys(f"step:{start}:{step}" for start in (found[2], "0")):
-            status = program.run(["run", "/dev/stdin", "--clock", clock], given=graph.source.text, keep_output=False).status
+            status = program.run(["run", "/dev/stdin", "--clock", clock, *graph.blocks], given=graph.source.text, keep_output=False).status
             if status in (0, 5):
                 return [f"with `--clock {clock}` no message is late: `run` then answers {status}"]
         step //= 2
@@ -165,5 +165,5 @@ def long(graph: Graph, subject: str, words: list[str]) -> Finding:
     clocks = [each for each in graph.names if graph.kind(each) == "every" and subject in ("meaning", graph.place(each).text())]
     notes = [graph.spot(graph.actor(each).get("period"), f"`{each}` fires once in each period, up to `until`") for each in clocks[:4]]
     label = f"more than {claims:,} firings {'for each' if subject == 'meaning' else 'on this'} platform"
-    helps = horizon.advice(json.loads(graph.source.text), claims)
+    helps = horizon.advice(json.loads(graph.source.text), claims, graph.blocks)
     return graph.found(place, label, f"at most {claims:,} firings a platform", *helps, notes=notes)

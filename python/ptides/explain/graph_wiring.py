@@ -6,6 +6,8 @@ from typing import Optional
 from ptides.explain.findings import Finding, a, count
 from ptides.explain.graph import Graph
 from ptides.explain.json_text import Node
+from ptides.formulas.file import Formula
+
 
 def wire_end(graph: Graph, _: str, node: Node) -> Optional[Finding]:
     """The output or input that the actor doesn't have."""
@@ -46,10 +48,22 @@ def unfed(graph: Graph, index: int, port: int) -> Finding:
     here = [(other, number) for other, each in zip(graph.names, graph.actors) for number in range(graph.ports(each)[1])
             if other != to and graph.place(other).text() == graph.place(to).text()]
     free = [each for each in here if each not in [wire[:2] for wire in graph.wired]]
+    formula = graph.formulas.get(actor.get("block").text())
+    if formula and "ab"[port] not in formula.inputs:
+        return unused(graph, actor, formula, port)
     source, output = (free or here or [("SOURCE", 0)])[0]
     why = f"output {output} of `{source}` leads nowhere yet" if free else "or from what is meant"
     label = f"input {port} of `{to}` has no wire: {a(graph.kind(to))} has {count(graph.ports(actor)[0], 'input')}"
     better = f'add ["{source}",{output},"{to}",{port}] to "wires": {why}'
+    return graph.found(actor.get("name"), label, "exactly one wire to each input", better)
+
+
+def unused(graph: Graph, actor: Node, formula: Formula, port: int) -> Finding:
+    """An input without a wire that the formula of its block doesn't use: the other input's source may feed it too."""
+    to, name = actor.get("name").text(), "ab"[port]
+    feeding = next((wire[:2] for wire in graph.wired if wire[2:] == (to, 1 - port)), ("SOURCE", 0))
+    label = f"input {port} of `{to}` has no wire: a `block` has 2 inputs"
+    better = f'add ["{feeding[0]}",{feeding[1]},"{to}",{port}] to "wires": `{formula.name}` doesn\'t use {name}, so let one output feed both inputs'
     return graph.found(actor.get("name"), label, "exactly one wire to each input", better)
 
 

@@ -7,6 +7,7 @@ from typing import Optional
 from ptides import limits
 from ptides.explain import graph_form, graph_timing, graph_wiring
 from ptides.explain.airs import air_fault
+from ptides.explain.blocks import blocks_fault, no_block
 from ptides.explain.command_line import read_fault, usage
 from ptides.explain.findings import Finding, Source, Spot, bytes_of, report
 from ptides.explain.graph import Graph
@@ -17,7 +18,7 @@ from ptides.program import Fault
 
 # What finds a fault at a place, by the words of `graph: WORDS at PLACE`.
 AT_PLACES = {"member": graph_form.member, "range": graph_form.out_of_range, "name": graph_form.malformed_name, "repeated": graph_form.repeated,
-             "unknown": graph_form.unknown, "block": graph_form.unknown, "wire end": graph_wiring.wire_end, "cross wire": graph_wiring.cross_wire,
+             "unknown": graph_form.unknown, "wire end": graph_wiring.wire_end, "cross wire": graph_wiring.cross_wire,
              "fed twice": graph_wiring.fed_twice, "link end": graph_wiring.link_end}
 
 
@@ -31,6 +32,8 @@ def too_long(source: Source, data: bytes) -> Finding:
 
 def finding_of(line: str, notes: list[str], words: list[str], path: str, data: bytes) -> Optional[Finding]:
     """What the line means, or nothing if that isn't known."""
+    if line.startswith("blocks: ") or line == "read fault: blocks":
+        return blocks_fault(line, words, path)
     source = Source(path, data.decode("utf-8", errors="replace"))
     plain = {"write fault": "the output couldn't be written in full: is the disk full, or did its reader end?", "memory": "memory ran out"}
     if line in plain:
@@ -42,7 +45,7 @@ def finding_of(line: str, notes: list[str], words: list[str], path: str, data: b
     root = too_long(source, data) if line == "graph: too long" else read_json(source, data)
     if isinstance(root, Finding):
         return root
-    graph = Graph(source, root)
+    graph = Graph(source, root, words)
     if line.startswith("air: ") or line == "read fault: air" or re.fullmatch("late .*, air row [0-9]+", line):
         return air_fault(graph, line, words)
     if re.match(r"sensor \w+: |late \w+ row ", line):
@@ -56,6 +59,8 @@ def graph_fault(graph: Graph, notes: list[str], words: list[str], path: str) -> 
     place = re.fullmatch(r"graph: ([a-z ]+) at (top|platform|actor|wire|link|clock error)(?: (\d+))?", line)
     if place:
         node = graph.root if place[2] == "top" else graph.parts[place[2]][int(place[3])]
+        if place[1] == "block":
+            return no_block(graph, node, words)
         return AT_PLACES[place[1]](graph, place[2], node)
     others = [("graph: too many ", lambda: graph_form.too_many(graph, line[16:])),
               ("graph: unfed ", lambda: graph_wiring.unfed(graph, int(line.split()[3]), int(last))),

@@ -8,14 +8,15 @@ from ptides import limits, program
 from ptides.companion import read
 from ptides.explain.command_line import at_word, plain_words, read_fault
 from ptides.explain.findings import Finding, Source, Spot, length_of
+from ptides.formulas.option import file_in, words_of
 
 
 class Log:
     """A file that should be a log of a graph, and why it is none."""
 
-    def __init__(self, path: str, graph: bytes, claims: int):
-        self.claims = claims
-        self.source = Source(path, read(path, limits.log_bytes_limit(claims) + 1).decode("utf-8", errors="replace"))
+    def __init__(self, path: str, graph: bytes, words: list[str]):
+        self.claims, self.blocks = limits.claims_in(words), words_of(file_in(words))
+        self.source = Source(path, read(path, limits.log_bytes_limit(self.claims) + 1).decode("utf-8", errors="replace"))
         self.lines, self.graph = self.source.text.split("\n"), graph
 
     def at(self, index: int, label: str, *helps: str) -> Finding:
@@ -63,7 +64,7 @@ class Log:
 
     def table(self, _: str = "") -> Finding:
         """The first line that isn't the meaning's."""
-        tables = program.run(["meaning", "/dev/stdin", *limits.words_of(self.claims)], given=self.graph).output.splitlines() + ["log"]
+        tables = program.run(["meaning", "/dev/stdin", *limits.words_of(self.claims), *self.blocks], given=self.graph).output.splitlines() + ["log"]
         index = next(number for number, line in enumerate(tables) if self.lines[number] != line)
         return self.at(index, f"`ptides meaning` has `{tables[index]}` here" if tables[index] != "log" else "the tables of the meaning have ended")
 
@@ -78,5 +79,5 @@ def log_fault(line: str, words: list[str], data: bytes) -> Finding:
         return at_word(words, words.index(path), f"this file has {length.text}", f"a log of at most {most:,} bytes",
                        f"a lower `until` or fewer rows give a shorter one; or allow it: {limits.option_for(limits.claims_for(log_bytes=length.size))}")
     found = re.fullmatch(r"unlawful: (no log|turn|unfinished|link|table)(?: at line)? ?(\w*)", line)
-    log = Log(path, data, claims)
+    log = Log(path, data, words)
     return getattr(log, found[1].replace(" ", "_"))(*([found[2]] if found[2] else []))

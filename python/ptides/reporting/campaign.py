@@ -10,6 +10,7 @@ from typing import Any, Callable, Iterable, Mapping, Optional
 
 from ptides import limits
 from ptides.companions import program_itself
+from ptides.formulas.option import BlocksFile
 from ptides.program import Fault, Refused, find_program
 from ptides.reporting.elements import marked, section, table, tag
 from ptides.reporting.gather import add_graph, gather
@@ -63,7 +64,12 @@ def asked_of(scenario: Scenario) -> Asked:
     if words.command not in ("run", "replay"):
         raise Fault(f"`{words.command}` is no run, and has no trends")
     graph, air = (plain_path(scenario.folder / word) for word in (words.graph, words.other))
-    return Asked(graph, air if words.command == "replay" else None, words.clock, scenario.folder, claims=limits.claims_of(words.claims))
+    return Asked(graph, air if words.command == "replay" else None, words.clock, scenario.folder, claims=limits.claims_of(words.claims), blocks=blocks_of(scenario, words.blocks))
+
+
+def blocks_of(scenario: Scenario, path: Optional[str]) -> Optional[BlocksFile]:
+    """The file of formulas that a scenario names."""
+    return BlocksFile(str(plain_path(scenario.folder / path)), path) if path else None
 
 
 def plain_path(path: Path) -> Path:
@@ -91,9 +97,9 @@ def tried(number: int, name: str, scenario: Scenario, outcome: Outcome) -> Tried
     return made
 
 
-def all_tried(folders: Iterable[str], claims: int) -> list[Tried]:
+def all_tried(folders: Iterable[str], claims: int, blocks: Optional[BlocksFile]) -> list[Tried]:
     """Runs all scenarios of these folders."""
-    scenarios = scenarios_of(folders, claims)
+    scenarios = scenarios_of(folders, claims, blocks)
     jobs = os.cpu_count() or 1
     outcomes = run_here(scenarios, program_itself(find_program()), jobs, LONGEST)
     with ThreadPoolExecutor(jobs) as pool:
@@ -167,9 +173,9 @@ def of_the_graph(all_of_them: list[Tried]) -> str:
     return section("graph", "Graph", graph_part(found[0])) + section("timing", "What may grow", timing_part(found[0]))
 
 
-def campaign_page(folders: list[str], title: str, zero_of: ZeroOf, claims: int) -> tuple[str, int, list[Gathered]]:
+def campaign_page(folders: list[str], title: str, zero_of: ZeroOf, claims: int, blocks: Optional[BlocksFile] = None) -> tuple[str, int, list[Gathered]]:
     """The page of all scenarios, 1 if one of them didn't give what is stored, and the runs."""
-    all_of_them = all_tried(folders, claims)
+    all_of_them = all_tried(folders, claims, blocks)
     failed = [each for each in all_of_them if each.outcome.message()]
     text = f"{len(all_of_them) - len(failed)} of {len(all_of_them)} scenarios gave what is stored"
     head = f'<header><h1>{escape(title)}</h1><div class="verdict{" bad" if failed else ""}"><strong>{text}.</strong></div></header>'
@@ -178,7 +184,8 @@ def campaign_page(folders: list[str], title: str, zero_of: ZeroOf, claims: int) 
     body = "".join(details(each, zero_of, most, each.key in opened) for each in all_of_them)
     parts = section("summary", "All scenarios", summary(all_of_them)) + section("missed", "Missed, late or refused", missed_and_late(all_of_them, zero_of) or NOTHING)
     parts += section("each", "Each", body) + of_the_graph(all_of_them)
-    parts += section("what", "What was run", tag("pre", escape("\n".join([" ".join(["$ ptides bench", *folders, *limits.words_of(claims)]), "", *versions()]))) + made_by())
+    named = ["--blocks", blocks.name] if blocks else []
+    parts += section("what", "What was run", tag("pre", escape("\n".join([" ".join(["$ ptides bench", *folders, *limits.words_of(claims), *named]), "", *versions()]))) + made_by())
     return document(title, tag("main", head + parts)), int(bool(failed)), [each.found for each in all_of_them if each.found]
 
 

@@ -10,6 +10,7 @@ from typing import Any, Callable, Iterator, Mapping, Optional, Union
 
 from ptides import companion, horizon, limits, wall_time
 from ptides.files import kept, readable
+from ptides.formulas.option import BlocksFile, add_blocks, words_of
 from ptides.graphs import is_lasting
 from ptides.program import Fault, Refused
 from ptides.reporting.campaign import are_folders, campaign_page
@@ -39,6 +40,7 @@ def parser() -> companion.Parser:
     found.add_argument("-o", "--output", metavar="FILE", help="where the page goes")
     found.add_argument("--clock", default="paced", metavar="CLOCK", help="as of ptides run: paced, step:START:STEP or machine")
     limits.add_claims(found, "how many claims a platform may make, as of ptides run")
+    add_blocks(found, "a file of formulas, as of ptides run; of folders for each scenario whose words name none")
     found.add_argument("--zero", metavar="STAMP", help="the wall time of 0, as 2026-03-29T00:58:00Z (default: what `ptides rows` keeps beside "
                        "the sensor files)")
     found.add_argument("--zone", metavar="ZONE", help="the zone of the clock on the wall, as UTC, Europe/Berlin or +01:00 (default: that of the zero)")
@@ -46,14 +48,14 @@ def parser() -> companion.Parser:
     return found
 
 
-def asked_of(words: list[str], clock: str, claims: int) -> Asked:
+def asked_of(words: list[str], clock: str, claims: int, blocks: Optional[BlocksFile]) -> Asked:
     """What the words ask for. The sensor files are looked up from the current folder."""
     command, rest = (words[0], words[1:]) if words[0] in ("run", "replay") and len(words) > 1 else ("run", words)
     if len(rest) != (2 if command == "replay" else 1):
         raise Fault(f"{command} takes {'a graph and an air file' if command == 'replay' else 'one graph'}, and not `{' '.join(rest)}`")
     if command == "replay" and clock != "paced":
         raise Fault("replay takes no --clock: its clocks are those of the recording")
-    return Asked(Path(rest[0]), Path(rest[1]) if command == "replay" else None, clock, Path.cwd(), claims=claims)
+    return Asked(Path(rest[0]), Path(rest[1]) if command == "replay" else None, clock, Path.cwd(), claims=claims, blocks=blocks)
 
 
 @contextmanager
@@ -101,7 +103,7 @@ def collected(asked: Asked) -> Gathered:
 def explained(asked: Asked, refused: Refused) -> Fault:
     """The refusal, with what helps against it."""
     if refused.status == 6:
-        return horizon.with_advice(refused, graph_of(asked), asked.claims, "report")
+        return horizon.with_advice(refused, graph_of(asked), asked.claims, "report", words_of(asked.blocks))
     return unread(asked, refused) if refused.line.startswith("read fault: sensor ") else refused
 
 
@@ -130,6 +132,7 @@ def read_files(found: Gathered) -> Iterator[Path]:
     asked = found.asked
     yield asked.graph
     yield from [asked.air] if asked.air else []
+    yield from [Path(asked.blocks.path)] if asked.blocks else []
     yield from (asked.folder / actor["file"] for actor in found.graph["actors"] if actor["kind"] == "sensor")
 
 
@@ -148,10 +151,10 @@ def main() -> int:
     stated_zero(given.zero, given.zone, {"actors": []}, Path())
     if are_folders(given.words):
         title = given.title or " ".join(title_of(Path(word)) for word in given.words)
-        text, status, runs = campaign_page(given.words, title, partial(stated_zero, given.zero, given.zone), given.claims)
+        text, status, runs = campaign_page(given.words, title, partial(stated_zero, given.zero, given.zone), given.claims, given.blocks)
         write_page(given.output or "scenarios.html", text, *runs)
         return status
-    asked = asked_of(given.words, given.clock, given.claims)
+    asked = asked_of(given.words, given.clock, given.claims, given.blocks)
     with once_read(asked) as ready:
         found = collected(ready)
         text = page(found, given.title or title_of(asked.graph), stated_zero(given.zero, given.zone, found.graph, Path.cwd()))

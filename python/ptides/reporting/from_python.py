@@ -7,6 +7,7 @@ from pathlib import Path
 from typing import Any, Mapping, Optional, Union
 
 from ptides import commands, files, limits
+from ptides.formulas.option import blocks_file
 from ptides.graphs import Changes, Graph, Placed, placed
 from ptides.program import Fault
 from ptides.reporting.command import write_page
@@ -37,7 +38,7 @@ def asked_of(graph: Graph, ready: Placed, air: Any, air_path: Optional[str], how
     name = str(ready.origin) if ready.origin else f"graph ({name_of(graph)})"
     air_file = None if air_path is None else Path(air_path)
     air_name = "" if air is None else name_of(air)
-    return Asked(ready.folder / ready.word, air_file, how.clock, ready.folder, name, air_name, ready.rows_names, call, how.claims)
+    return Asked(ready.folder / ready.word, air_file, how.clock, ready.folder, name, air_name, ready.rows_names, call, how.claims, how.blocks)
 
 
 def write_report(graph: Graph, file: PathLike, air: Any, how: commands.How, changes: Changes, title: str, folder: Optional[PathLike]) -> int:
@@ -45,12 +46,12 @@ def write_report(graph: Graph, file: PathLike, air: Any, how: commands.How, chan
     if air is not None and how.clock != "paced":
         raise Fault("a replay takes no clock: its clocks are those of the recording")
     claims = None if how.claims == limits.USUAL_CLAIMS else how.claims
-    options = {"air": air, "clock": None if how.clock == "paced" else how.clock, "claims": claims, "until": changes.until, "zero": changes.zero,
+    options = {"air": air, "clock": None if how.clock == "paced" else how.clock, "claims": claims, "blocks": how.blocks, "until": changes.until, "zero": changes.zero,
                "folder": folder, **changes.sensors}
     call = call_of(graph, file, {name: value for name, value in options.items() if value is not None})
     network = nullcontext(None) if air is None else files.air_file(air)
-    with placed(graph, folder, changes) as ready, network as path:
-        asked = asked_of(graph, ready, air, path, how, call)
+    with placed(graph, folder, changes) as ready, network as path, blocks_file(how.blocks) as blocks:
+        asked = asked_of(graph, ready, air, path, how._replace(blocks=blocks), call)
         found = gather(asked)
         write_page(file, page(found, title or asked.graph_name, zero_as_shown(ready.zero)), found)
     return found.status

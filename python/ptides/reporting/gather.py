@@ -4,6 +4,7 @@ from __future__ import annotations
 from typing import Any
 
 from ptides import commands
+from ptides.formulas.option import words_of
 from ptides.inner import Value, inner_signals
 from ptides.probes import Output
 from ptides.program import Refused
@@ -14,11 +15,16 @@ from ptides.reporting.trends import network, readings, rooms, trends
 from ptides.results import Result
 
 
+def how_of(asked: Asked) -> dict[str, Any]:
+    """How the graph is run each time."""
+    return {"claims": asked.claims, "blocks": asked.blocks, "folder": asked.folder}
+
+
 def run(asked: Asked) -> Result:
     """Runs what was asked for."""
     if asked.air is not None:
-        return commands.replay(asked.graph, asked.air, claims=asked.claims, folder=asked.folder)
-    return commands.run(asked.graph, clock=asked.clock, claims=asked.claims, folder=asked.folder)
+        return commands.replay(asked.graph, asked.air, **how_of(asked))
+    return commands.run(asked.graph, clock=asked.clock, **how_of(asked))
 
 
 def gather(asked: Asked, whole: bool = True) -> Gathered:
@@ -32,7 +38,7 @@ def gather(asked: Asked, whole: bool = True) -> Gathered:
     except Refused as fault:
         if fault.status != 4:
             raise
-        refused, result = fault, commands.meaning(asked.graph, claims=asked.claims, folder=asked.folder)
+        refused, result = fault, commands.meaning(asked.graph, **how_of(asked))
     else:
         seen = read_log(result.entries())
     found = Gathered(asked, result, refused)
@@ -46,13 +52,13 @@ def gather(asked: Asked, whole: bool = True) -> Gathered:
 
 def add_graph(found: Gathered) -> None:
     """What is of the graph alone: margins, growth, warnings and the picture."""
-    graph = found.asked.graph
-    found.margins, found.timing = commands.check(graph), commands.timing(graph)
+    graph, blocks = found.asked.graph, found.asked.blocks
+    found.margins, found.timing = commands.check(graph, blocks=blocks), commands.timing(graph, blocks=blocks)
     try:
-        found.remarks = commands.lint(graph, claims=found.asked.claims, folder=found.asked.folder)
+        found.remarks = commands.lint(graph, **how_of(found.asked))
     except Refused as fault:
         found.notes.append(f"No warnings were looked for: {fault.line}")
-    found.picture, note = picture(graph)
+    found.picture, note = picture(graph, words_of(blocks))
     found.notes += [note] if note else []
     found.version = versions()
 
@@ -60,7 +66,7 @@ def add_graph(found: Gathered) -> None:
 def watched(found: Gathered, seen: Seen) -> dict[Output, list[Value]]:
     """What each output gives; notes name those that can't be watched. What is given doesn't depend on clocks and the network."""
     def ask(graph: dict[str, Any]) -> str:
-        how: dict[str, Any] = {"claims": found.asked.claims, "folder": found.asked.folder}
+        how = how_of(found.asked)
         return (commands.meaning(graph, **how) if found.refused else commands.run(graph, log=False, **how)).output
 
     # The rows of sensors are in the log.

@@ -6,6 +6,7 @@ from pathlib import Path
 from typing import Any, Mapping, NamedTuple, Optional
 
 from ptides import commands, limits
+from ptides.formulas.option import BlocksFile
 from ptides.program import Refused
 from ptides.reporting.series import Signal
 from ptides.results import Result
@@ -25,6 +26,7 @@ class Asked(NamedTuple):
     # How the user asked for it, if not by words for the program.
     call: str = ""
     claims: int = limits.USUAL_CLAIMS
+    blocks: Optional[BlocksFile] = None
 
     @property
     def graph_name(self) -> str:
@@ -35,7 +37,8 @@ class Asked(NamedTuple):
         """What was asked for, as a line."""
         options = commands.options_of(self.clock, None)
         words = ["run", self.graph_name, *options] if self.air is None else ["replay", self.graph_name, self.air_name or str(self.air)]
-        return self.call or f"$ {' '.join(['ptides', *words, *limits.words_of(self.claims)])}"
+        named = ["--blocks", self.blocks.name] if self.blocks else []
+        return self.call or f"$ {' '.join(['ptides', *words, *limits.words_of(self.claims), *named])}"
 
 
 class File(NamedTuple):

@@ -22,6 +22,8 @@ def files_of(found: Gathered) -> Iterator[File]:
     yield file_of(asked.graph_name, asked.graph)
     if asked.air is not None:
         yield file_of(asked.air_name or str(asked.air), asked.air)
+    if asked.blocks:
+        yield file_of(asked.blocks.name, Path(asked.blocks.path))
     for actor in found.graph["actors"]:
         if actor["kind"] == "sensor":
             yield file_of(f"{asked.rows_names.get(actor['name'], actor['file'])} ({actor['name']})", asked.folder / actor["file"])
@@ -45,11 +47,11 @@ def versions() -> list[str]:
     return [*lines, f"SHA-256 of the program {hashlib.sha256(Path(file).read_bytes()).hexdigest()}"]
 
 
-def picture(graph: Path) -> tuple[str, str]:
+def picture(graph: Path, blocks: list[str]) -> tuple[str, str]:
     """The graph as SVG, or why there is none."""
     if not shutil.which("dot"):
         return "", "No picture of the graph: Graphviz isn't installed (Debian: apt-get install graphviz)."
-    text = companions.call("dot", os.path.abspath(graph)).output
+    text = companions.call("dot", os.path.abspath(graph), *blocks).output
     try:
         done = subprocess.run(["dot", "-Tsvg"], input=text, capture_output=True, text=True, timeout=LONGEST, check=False)
     except subprocess.TimeoutExpired:

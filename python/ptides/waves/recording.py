@@ -18,17 +18,18 @@ from ptides.tables import parts_of
 
 @dataclass
 class Command:
-    """What is run: the words before and after the graph, the text of the graph, and how many claims a platform may make."""
+    """What is run: the words before and after the graph, the text of the graph, how many claims a platform may make, and the words that name its blocks."""
 
     text: str
     words: list[str] = field(default_factory=lambda: ["run"])
     rest: list[str] = field(default_factory=list)
     own_clock: bool = False
     claims: int = limits.USUAL_CLAIMS
+    blocks: list[str] = field(default_factory=list)
 
     def run(self, text: str) -> program.Done:
         """Runs this command on the text of a graph, in the current folder; a run that doesn't end raises `Refused`."""
-        return program.ask([*self.words, "/dev/stdin", *self.rest, *limits.words_of(self.claims), "--log"], accepted=(0, 5), given=text)
+        return program.ask([*self.words, "/dev/stdin", *self.rest, *limits.words_of(self.claims), *self.blocks, "--log"], accepted=(0, 5), given=text)
 
 
 @dataclass
