@@ -1,76 +1,38 @@
 """Called by worst.sh, whose head says what it does: worst.py FOLDER PTIDES [growth] [ROUNDS] [SHAPE[:SIZE=NUMBER,..]..]."""
-import json
 import os
-import resource
-import subprocess
+import random
 import sys
-import tempfile
 
+import worst_calls
 import worst_shapes
+from worst_calls import CALLS, GOALS, MORE, PLAIN, UNITS, Place
+from worst_files import LOG_CHANGES
 
-MOST_SECONDS = 20
-# A run that takes longer is measured once.
-LONG = 1.0
-
-
-def limit():
-    resource.setrlimit(resource.RLIMIT_CPU, (MOST_SECONDS, MOST_SECONDS))
-
-
-def once(words):
-    """The processor time of one run in milliseconds, the peak of its resident set in MB, and its status.
-
-    Time and status are None if it was ended. /usr/bin/time, which adds about a millisecond, reports the memory: of a process that Python
-    starts wait4 may give Python's own."""
-    with tempfile.TemporaryFile() as notes:
-        process = subprocess.Popen(["/usr/bin/time", "-q", "-f", "%M", *words], stdout=subprocess.DEVNULL, stderr=notes, preexec_fn=limit)
-        _, status, usage = os.wait4(process.pid, 0)
-        notes.seek(0)
-        size = int(notes.read().split()[-1]) / 1024
-    status = os.waitstatus_to_exitcode(status)
-    return ((usage.ru_utime + usage.ru_stime) * 1000, size, status) if 0 <= status < 128 else (None, size, None)
-
-
-def least(words, rounds):
-    """The run with the least processor time of some."""
-    best = once(words)
-    for _ in range(rounds - 1):
-        if best[0] is None or best[0] > 1000 * LONG:
-            break
-        best = min(best, once(words))
-    return best
-
-
-def claims_of(ptides):
-    """How many claims the run makes; None if it has no log, as after more than MOST_SECONDS."""
-    process = subprocess.Popen([ptides, "run", "graph.json", "--log"], stdout=subprocess.PIPE, stderr=subprocess.DEVNULL, preexec_fn=limit)
-    count = sum(line.startswith(b"claim,") for line in process.stdout)
-    return count if process.wait() in (0, 5) else None
+TEN = 10
 
 
 class Shape:
-    """What was measured of a shape with these sizes."""
+    """What was measured of a shape, in one of its forms, and of the changed logs of its run."""
 
-    def __init__(self, ptides, folder, name, sizes, rounds):
-        self.name, self.sizes = name, sizes
-        worst_shapes.SHAPES[name](**sizes).write(folder)
-        os.chdir(folder)
-        with open("graph.json", encoding="ascii") as file:
-            graph = json.load(file)
-        self.actors, self.wires, self.platforms = len(graph["actors"]), len(graph["wires"]), len(graph["platforms"])
-        self.units = sum(len(actor.get("cells", [0])) for actor in graph["actors"])
-        self.claims = claims_of(ptides)
-        self.run, self.run_size, self.status = least([ptides, "run", "graph.json"], rounds)
-        self.meaning, self.meaning_size, _ = least([ptides, "meaning", "graph.json"], rounds)
-        self.check, _, _ = least([ptides, "check", "graph.json"], rounds)
+    def __init__(self, program, folder, word, form, rounds, calls=CALLS):
+        self.name, self.sizes = worst_shapes.sizes_given(word)
+        graph = worst_shapes.SHAPES[self.name](**self.sizes)
+        if form == "shuffled":
+            graph = graph.shuffled(random.Random(1))
+        self.form, self.program, self.folder, self.graph = form, program, folder, graph
+        self.place = Place(program, folder, graph)
+        self.figures = self.place.figures(rounds, calls)
 
-    def a_claim(self):
-        """Microseconds for each claim of `run` less `check`, which begins and analyses the graph in the same way."""
-        return max(0.0, 1000 * (self.run - self.check) / self.claims) if self.run and self.check and self.claims else None
+    def change_logs(self, rounds):
+        """Has each kind of changed log of the run judged, and adds what that costs."""
+        audit, check = next(call for call in CALLS if call.name == "audit"), self.figures["check"].cost
+        for change in LOG_CHANGES:
+            self.place.write_log([change], random.Random(1))
+            name = f"audit, {change.replace('_', ' ')}"
+            self.figures[name] = self.place.figure(audit._replace(name=name), rounds, {"check": check})
 
-    def a_unit(self):
-        """Nanoseconds of each claim for each unit of the graph."""
-        return 1000 * self.a_claim() / self.units if self.a_claim() else None
+    def __str__(self):
+        return f"`{self.name}`{', shuffled' if self.form == 'shuffled' else ''}"
 
 
 def cell(value, places=1):
@@ -81,61 +43,83 @@ def row(*cells):
     print("| " + " | ".join(cells) + " |", flush=True)
 
 
+def in_short(figure):
+    """The cost of a call in a cell: for each event or byte, and otherwise in ms; the status if it wrote no result."""
+    if figure.cost.ms is None:
+        return "ended"
+    if figure.cost.status not in (0, 5) and (figure.call.words[0] != "audit" or figure.cost.status != 10):
+        return f"({figure.cost.status})" if figure.rate is None else f"{cell(figure.rate)} ({figure.cost.status})"
+    return cell(figure.rate) if figure.call.by else f"{figure.cost.ms:,.0f}"
+
+
 def show(shape):
-    sizes = ", ".join(f"{name} {number}" for name, number in shape.sizes.items())
-    run = cell(shape.run) if shape.run else f"over {MOST_SECONDS},000"
-    run += f" (status {shape.status})" if shape.status else ""
-    row(f"{shape.name}: {sizes}", cell(shape.actors), cell(shape.units), cell(shape.platforms), cell(shape.claims), run, cell(shape.meaning),
-        cell(shape.check), cell(shape.a_claim()), cell(shape.a_unit()), cell(shape.run_size), cell(shape.meaning_size))
+    figures = shape.figures
+    pairs = [f"{in_short(figures[plain.name])}, {in_short(figures[more.name])}" for plain, more in zip(PLAIN, MORE)]
+    logs = [figures[name] for name in figures if name.startswith("audit, ") and name != MORE[-1].name]
+    pairs.append(in_short(max(logs, key=lambda figure: figure.rate or 0)))
+    begin = [in_short(figures[name]) for name in ("check", "migrate", "slacks")]
+    units = sum(len(actor.get("cells", [0])) for actor in shape.graph.actors)
+    row(str(shape), cell(units), cell(len(shape.graph.platforms)), cell(shape.place.events), *pairs, *begin, cell(max(figure.cost.size for figure in figures.values()), 0))
 
 
 def head():
-    row("Shape", "Actors", "Units", "Platforms", "Claims", "`run` ms", "`meaning` ms", "`check` ms", "us a claim", "ns a claim and unit",
-        "`run` MB", "`meaning` MB")
-    print("|" + "---|" * 12)
+    row("Shape", "Units", "Platforms", "Events", "`run` us", "by steps us", "by machine ms", "`meaning` us", "`replay` us", "`audit` ns", "changed logs ns",
+        "`check` ms", "`migrate` ms", "`slacks` ms", "most MB")
+    print("|" + "---|" * 15)
 
 
-def grow(ptides, folder, name, sizes, rounds):
-    """Shows how the microseconds for each claim grow if one size after another is doubled."""
-    base = Shape(ptides, folder, name, sizes, rounds)
+def show_worst(found):
+    """The calls that cost most beside their goals, and all that are beyond."""
+    figures = sorted(((figure.times(), str(shape), figure) for shape in found for figure in shape.figures.values()), key=lambda it: -it[0])
+    print(f"\nThe {TEN} calls that cost most beside their goals:\n")
+    for times, name, figure in figures[:TEN]:
+        if times > 0:
+            print(f"- {name}, {figure.told()}")
+    beyond = sum(times > 1 for times, _, _ in figures)
+    print(f"\n{beyond} of {len(figures)} calls are beyond their goals, {sum(times > worst_calls.BEYOND for times, _, _ in figures)} more than {worst_calls.BEYOND} times")
+
+
+def grow(program, folder, word, rounds):
+    """Shows how the events, and what `run` takes for each, grow if one size after another is doubled."""
+    calls = [call for call in CALLS if call.name in ("check", "migrate", "run")]
+    base = Shape(program, folder, word, "made", rounds, calls)
     changes = []
-    for size, number in sizes.items():
-        other = Shape(ptides, folder, name, {**sizes, size: 2 * number}, rounds)
-        if base.a_claim() and other.a_claim():
-            changes.append(f"{size} {number} to {2 * number}: claims x {other.claims / base.claims:.2f}, us a claim x "
-                           f"{other.a_claim() / base.a_claim():.2f}")
+    for size, number in base.sizes.items():
+        others = ",".join(f"{name}={value if name != size else 2 * value}" for name, value in base.sizes.items())
+        other = Shape(program, folder, f"{base.name}:{others}", "made", rounds, calls)
+        before, after = base.figures["run"], other.figures["run"]
+        if before.rate and after.rate and base.place.events and other.place.events:
+            changes.append(f"{size} {number} to {2 * number}: events x {other.place.events / base.place.events:.2f}, us an event x {after.rate / before.rate:.2f}")
         else:
-            why = {2: "not lawful", 6: "more than 200,000 claims"}.get(other.status, f"status {other.status}")
+            why = {2: "not lawful", 6: "more than 200,000 claims", 0: "too short to say"}.get(after.cost.status, f"status {after.cost.status}")
             changes.append(f"{size} {number} to {2 * number}: {why}")
-    print(f"{name}: {cell(base.claims)} claims, {cell(base.a_claim())} us a claim; {'; '.join(changes)}", flush=True)
+    print(f"{base.name}: {cell(base.place.events)} events, {cell(base.figures['run'].rate)} us an event; {'; '.join(changes)}", flush=True)
 
 
 def main():
-    folder, ptides, *words = sys.argv[1:]
+    folder, program, *words = sys.argv[1:]
     is_growth = words[:1] == ["growth"]
     words = words[is_growth:]
     rounds = int(words.pop(0)) if words and words[0].isdecimal() else 3
+    words = words or list(worst_shapes.SHAPES)
+    for word in words:
+        worst_shapes.sizes_given(word)
+    if is_growth:
+        for number, word in enumerate(words):
+            grow(program, os.path.join(folder, str(number)), word, rounds)
+        return
+    goals = " and ".join(f"{goal:.0f} {UNITS[by]}" for by, goal in GOALS.items())
+    print(f"{program}: processor time, the least of {rounds} runs or one of more than a second, less that of `check`; the goals are {goals}. Of two numbers "
+          f"the second is with --claims {worst_calls.CLAIMS}. In brackets is the status; memory is the greatest resident set.\n")
+    print(f"{worst_calls.make_figure(program, rounds).told()}\n")
+    head()
     found = []
-    if not is_growth:
-        print(f"{ptides}: processor time, the least of {rounds} runs or one of more than {LONG:.0f} s; memory is the peak of the resident set\n")
-        head()
-    for number, word in enumerate(words or worst_shapes.SHAPES):
-        name, _, given = word.partition(":")
-        if name not in worst_shapes.SHAPES:
-            sys.exit(f"there is no shape {name}; python3 bench/worst_shapes.py lists them")
-        sizes = worst_shapes.sizes_of(name)
-        sizes.update((size, int(value)) for size, value in (change.split("=") for change in given.split(",") if change))
-        place = os.path.join(folder, str(number))
-        if is_growth:
-            grow(ptides, place, name, sizes, rounds)
-        else:
-            found.append(Shape(ptides, place, name, sizes, rounds))
+    for word in words:
+        for form in ("made", "shuffled"):
+            found.append(Shape(program, os.path.join(folder, "graph"), word, form, rounds))
+            found[-1].change_logs(rounds)
             show(found[-1])
-    if len(found) > 10:
-        print("\nThe ten that take longest for each claim:\n")
-        head()
-        for shape in sorted(found, key=lambda shape: -(shape.a_claim() or (10**9 if shape.run is None else 0)))[:10]:
-            show(shape)
+    show_worst(found)
 
 
 if __name__ == "__main__":

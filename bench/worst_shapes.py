@@ -1,5 +1,5 @@
 #!/usr/bin/env python3
-"""Writes a graph whose shape is hard to run, with its sensor files: worst_shapes.py SHAPE FOLDER [SIZE=NUMBER..].
+"""Writes a graph whose shape is hard, with its sensor files and an air file: worst_shapes.py SHAPE FOLDER [SIZE=NUMBER..].
 
 Without words it lists the shapes with their sizes. Each shape is a function of its sizes, and each graph is lawful and of version 2.
 `tags` is the number of rows of the sensors that matter. A *decoy* is a unit that has an event and can't fire before the end.
@@ -8,6 +8,7 @@ import inspect
 import sys
 
 from hard_graph import FAR, UNTIL, Graph
+from worst_found import FOUND, joined
 
 
 def every_1000(tags):
@@ -31,16 +32,6 @@ def token(graph, name, source, delay):
     graph.add(f"x{name}", "machine", f"m{name}", start=0, outputs=2, rows=[any_value])
     graph.add(f"d{name}", "delay", f"x{name}", d=delay)
     return f"x{name}"
-
-
-def joined(graph, name, sources):
-    """All sources, joined by merges of eight to one."""
-    number = 0
-    while len(sources) > 1:
-        group, sources = sources[:8], sources[8:]
-        sources.append(graph.add(f"{name}{number}", "merge", *group, n=len(group)))
-        number += 1
-    return sources[0]
 
 
 # --- chains
@@ -462,12 +453,26 @@ def links_between_two(links=60, tags=150):
 
 
 SHAPES = {name: value for name, value in list(globals().items()) if inspect.isfunction(value) and
-          name not in ("every_1000", "joined_chain", "token", "joined")}
+          name not in ("every_1000", "joined_chain", "token", "joined")} | FOUND
 
 
 def sizes_of(shape):
     """The sizes of a shape and their numbers, if no others are named."""
     return {name: size.default for name, size in inspect.signature(SHAPES[shape]).parameters.items()}
+
+
+def sizes_given(word):
+    """A shape and its sizes of a word SHAPE[:SIZE=NUMBER,..]; ends with one line if there is no such shape or size."""
+    name, _, given = word.partition(":")
+    if name not in SHAPES:
+        sys.exit(f"there is no shape {name}; python3 bench/worst_shapes.py lists them")
+    sizes = sizes_of(name)
+    for change in given.split(",") if given else []:
+        size, _, number = change.partition("=")
+        if size not in sizes or not number.isdecimal():
+            sys.exit(f"{name} has the sizes {', '.join(sizes)}, each a number: {change}")
+        sizes[size] = int(number)
+    return name, sizes
 
 
 def main():
@@ -476,10 +481,10 @@ def main():
             sizes = " ".join(f"{size}={number}" for size, number in sizes_of(name).items())
             print(f"{name:22} {sizes:36} {inspect.getdoc(shape)}")
         return
-    if len(sys.argv) < 3 or sys.argv[1] not in SHAPES:
+    if len(sys.argv) < 3:
         sys.exit("usage: worst_shapes.py [SHAPE FOLDER [SIZE=NUMBER..]]")
-    sizes = dict(word.split("=") for word in sys.argv[3:])
-    SHAPES[sys.argv[1]](**{name: int(number) for name, number in sizes.items()}).write(sys.argv[2])
+    name, sizes = sizes_given(":".join([sys.argv[1], ",".join(sys.argv[3:])]))
+    SHAPES[name](**sizes).write(sys.argv[2])
 
 
 if __name__ == "__main__":
