@@ -12,6 +12,7 @@ pub mod FirstTwo
 pub mod MaskLists
 pub mod Comparing
 pub mod Prefixes
+pub mod NumberLists
 pub mod MarkLists
 pub mod SourceLists
 pub mod TaskLists

@@ -1,29 +1,12 @@
 -- Marks stored flat: one more, and the mark of an index.
 use Rattle.std.proofs.Common.{◌≡◌, ℕ, zero, suc, ◌+◌, ◌-◌, ◌<◌, ◌≤◌, Some, List, [], ◌∷◌, ◌++◌, append-nil, refl, sym, ap, ap₂, ◌∙◌, arith, length, length-append, get_or}
 use Rattle.std.specs.Prelude.{slice_get}
-use Rattle.std.proofs.lemmas.List.{append_assoc, get_or-append_right, get_or_append_left, length_push}
+use Rattle.std.proofs.lemmas.List.{append_assoc, length_push}
 use Rattle.pt_tags.specs.declared.tag.Tag.{Tag}
 use Rattle.pt_history.specs.declared.claims.Mark.{Mark}
-use Rattle.pt_history.specs.Marks.{marks_of, numbers_from, mark_numbers}
-
--- numbers in a row
-pub length-from : (k n : ℕ) → length (numbers_from k n) ≡ n
-length-from k zero = refl
-length-from k (suc n) = ap suc (length-from (k + 1) n)
-
-from_next : (k n : ℕ) → numbers_from k (suc n) ≡ numbers_from k n ++ (k + n) ∷ []
-from_next k zero = ap (λ i. i ∷ []) (omega arith)
-from_next k (suc n) =
-    let next : k + 1 + n ≡ k + suc n = omega arith in
-    ap (λ l. k ∷ l) (from_next (k + 1) n ∙ ap (λ i. numbers_from (k + 1) n ++ i ∷ []) next)
-
-pub from_more : (k n : ℕ) → numbers_from k (n + 1) ≡ numbers_from k n ++ (k + n) ∷ []
-from_more k n = let more : n + 1 ≡ suc n = omega arith in ap (numbers_from k) more ∙ from_next k n
-
-from_get : (k n i : ℕ) → i < n → get_or (numbers_from k n) i 0 ≡ k + i
-from_get k zero i lt = absurd (omega arith)
-from_get k (suc n) zero lt = omega arith
-from_get k (suc n) (suc i) lt = from_get (k + 1) n i (omega arith) ∙ omega arith
+use Rattle.pt_history.specs.Marks.{marks_of, mark_numbers}
+use Rattle.pt_history.specs.Numbers.{numbers_from}
+use Rattle.pt_history.proofs.NumberLists.{from_more, length-from, number_after, number_before}
 
 -- the numbers of marks
 pub length-numbers : (count : ℕ) (stored : List ℕ) → length stored ≤ count → length (mark_numbers count stored) ≡ count
@@ -49,13 +32,10 @@ number_stored count n stored few =
     ap (λ k. numbers_from 0 k ++ (stored ++ n ∷ [])) same ∙ sym (append_assoc (numbers_from 0 (count - length stored)) stored (n ∷ []))
 
 pub number_first : (count i : ℕ) (stored : List ℕ) → i < count - length stored → get_or (mark_numbers count stored) i 0 ≡ i
-number_first count i stored lt =
-    let same : 0 + i ≡ i = omega arith in
-    let first : length (numbers_from 0 (count - length stored)) ≡ count - length stored = length-from 0 (count - length stored) in
-    get_or_append_left (numbers_from 0 (count - length stored)) stored 0 i (omega (arith, first, lt)) ∙ from_get 0 (count - length stored) i lt ∙ same
+number_first count i stored lt = number_before (count - length stored) i stored lt
 
 pub number_last : (count i : ℕ) (stored : List ℕ) → count - length stored ≤ i → get_or (mark_numbers count stored) i 0 ≡ get_or stored (i - (count - length stored)) 0
-number_last count i stored past = get_or-append_right (numbers_from 0 (count - length stored)) stored (count - length stored) i 0 (length-from 0 (count - length stored)) past
+number_last count i stored past = number_after (count - length stored) i stored past
 
 -- marks
 pub length-marks : (ts : List Tag) (ks ns : List ℕ) → length ks ≡ length ts → length ns ≡ length ts → length (marks_of ts ks ns) ≡ length ts

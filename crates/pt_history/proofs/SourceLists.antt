@@ -1,26 +1,18 @@
 -- Sources of results: one more, and the source of a result.
-use Rattle.std.proofs.Common.{◌≡◌, ℕ, zero, suc, ◌+◌, ◌-◌, ◌<◌, ◌≤◌, Some, List, [], ◌∷◌, ◌++◌, append-nil, sym, ap, ap₂, ◌∙◌, arith, length, length-append}
+use Rattle.std.proofs.Common.{◌≡◌, ℕ, zero, suc, ◌+◌, ◌-◌, ◌<◌, ◌≤◌, Some, List, ◌++◌, ap, ◌∙◌, arith, length, length-append}
 use Rattle.std.specs.Prelude.{map, slice_get}
 use Rattle.std.proofs.lemmas.List.{length-map}
 use Rattle.pt_history.specs.declared.sources.Source.{Source}
 use Rattle.pt_history.specs.declared.sources.Source.TheVariants.{Claim}
-use Rattle.pt_history.specs.Marks.{numbers_from}
-use Rattle.pt_history.specs.Sources.{claim_numbers, sources_of}
-use Rattle.pt_history.proofs.MarkLists.{from_more, length-from}
+use Rattle.pt_history.specs.Numbers.{numbers_from, numbers_with}
+use Rattle.pt_history.specs.Sources.{sources_of}
+use Rattle.pt_history.proofs.NumberLists.{length-with}
 
 pub length-sources : (n : ℕ) (claims : List ℕ) (rest : List Source) → length (sources_of n claims rest) ≡ n + length claims + length rest
 length-sources n claims rest =
-    let first : length (numbers_from 0 n) ≡ n = length-from 0 n in
-    let numbers : length (claim_numbers n claims) ≡ length (numbers_from 0 n) + length claims = length-append (numbers_from 0 n) claims in
-    let mapped : length (map Claim (claim_numbers n claims)) ≡ length (claim_numbers n claims) = length-map (claim_numbers n claims) Claim in
-    length-append (map Claim (claim_numbers n claims)) rest ∙ omega (arith, first, numbers, mapped)
-
--- one claim more
-pub claim_counted : (n x : ℕ) (claims : List ℕ) → length claims ≡ 0 → x ≡ n → claim_numbers (n + 1) claims ≡ claim_numbers n claims ++ x ∷ []
-claim_counted n x [] none is =
-    let last : 0 + n ≡ x = omega (arith, is) in
-    append-nil (numbers_from 0 (n + 1)) ∙ from_more 0 n ∙ ap₂ (λ l i. l ++ i ∷ []) (sym (append-nil (numbers_from 0 n))) last
-claim_counted n x (c ∷ claims) none is = absurd (omega (arith, none))
+    let numbers : length (numbers_with n claims) ≡ n + length claims = length-with n claims in
+    let mapped : length (map Claim (numbers_with n claims)) ≡ length (numbers_with n claims) = length-map (numbers_with n claims) Claim in
+    length-append (map Claim (numbers_with n claims)) rest ∙ omega (arith, numbers, mapped)
 
 -- the source of a result
 counted : (k n i : ℕ) (claims : List ℕ) (rest : List Source) → i < n → slice_get (map Claim (numbers_from k n ++ claims) ++ rest) i ≡ Some (Claim (k + i))

@@ -19,3 +19,5 @@ pub mod PastHeadsWhole
 pub mod Recents
 pub mod HeadsWhole
 pub mod Levels
+pub mod Numbers
+pub mod ListStartsWhole

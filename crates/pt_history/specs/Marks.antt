@@ -1,12 +1,8 @@
 -- Claims without their inputs and their states, stored flat.
-use Rattle.std.specs.Prelude.{◌+◌, ◌-◌, ◌++◌, ℕ, zero, suc, List, [], ◌∷◌, length}
+use Rattle.std.specs.Prelude.{◌-◌, ◌++◌, ℕ, List, [], ◌∷◌, length}
 use Rattle.pt_tags.specs.declared.tag.Tag.{Tag}
 use Rattle.pt_history.specs.declared.claims.Mark.{Mark}
-
--- n numbers in a row, from k on
-abbrev pub numbers_from : ℕ → ℕ → List ℕ
-numbers_from k zero = []
-numbers_from k (suc n) = k ∷ numbers_from (k + 1) n
+use Rattle.pt_history.specs.Numbers.{numbers_from}
 
 -- the numbers of `count` marks: the last are stored, and each one before them is its index
 abbrev pub mark_numbers : ℕ → List ℕ → List ℕ

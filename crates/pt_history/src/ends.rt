@@ -4,7 +4,7 @@ ghost use Rattle.std.specs.Prelude.{◌≡◌, ℕ, ◌/◌, ◌+◌, ◌<◌, �
 ghost use Rattle.pt_history.specs.Levels.{IsLevel};
 
 use crate::levels::Levels;
-use crate::repeats::Repeats;
+use crate::list_starts::ListStarts;
 use pt_tags::Memory;
 use std::alloc::Global;
 use std::marker::Model;
@@ -15,7 +15,7 @@ use std::marker::Model;
 #[derive(Drop)]
 pub(crate) struct Ends {
     /// The index at which each list starts, without the pending lists.
-    starts: Repeats<u32>,
+    starts: ListStarts,
     /// The number of items in all lists: the end of the last list.
     total: usize,
     /// The number of lists at the end, all empty, of which no start is stored yet.
@@ -45,7 +45,7 @@ impl Ends {
         ensures { result ≡ record { ends = []; total = 0; spare = 0 } }
     {
         Ends {
-            starts: Repeats::new(alloc),
+            starts: ListStarts::new(alloc),
             total: 0,
             pending: 0,
         }
@@ -220,7 +220,7 @@ impl Ends {
 
 /// Stores that lists begin at an index. Allocates nothing.
 #[inline(always)]
-fn begin_all(starts: &mut Repeats<u32>, start: u32, lists: usize)
+fn begin_all(starts: &mut ListStarts, start: u32, lists: usize)
     requires { lists ≤ starts.old.spare }
     ensures items { starts.new.items ≡ starts.old.items ++ replicate lists start }
     ensures room { starts.new.spare + lists ≡ starts.old.spare }

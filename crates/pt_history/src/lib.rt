@@ -3,7 +3,7 @@
 //! Each of the five lists is stored flat for all turns: its items one after another, and the index at which each turn's
 //! part starts (`Ends`). Of claims and results only the values that are there are stored, and a result refers to its claim
 //! (`Work`). Readings and starts mostly repeat those of the turn before, and tags those of the claim before, and equal
-//! neighbours are stored once (`Repeats`).
+//! neighbours are stored once (`Repeats`, `ListStarts`). Starts that are 0, 1, 2 and so on are only counted.
 //! Most heads are of single turns, of which only the reading is stored (`PastHeads`).
 //! A run of quiet turns is stored as one turn: `begin` joins the last two as defined in pt_semantics.
 //! Memory is reserved before a turn, so that a turn allocates nothing.
@@ -19,8 +19,10 @@ mod heads;
 mod history;
 mod indices;
 mod levels;
+mod list_starts;
 mod marks;
 mod miss;
+mod numbers;
 mod past_heads;
 mod pieces;
 mod posted_at;

@@ -91,41 +91,11 @@ impl<T: Drop> Repeats<T> {
         self.indices.again();
     }
 
-    /// Appends an item this many times. Allocates nothing.
-    #[inline(always)]
-    pub fn push_all(&mut self, item: T, times: usize)
-        requires some { 0 < times }
-        requires room { times ≤ self.old.spare }
-        ensures items { self.new.items ≡ self.old.items ++ replicate times item }
-        ensures room { self.new.spare + times ≡ self.old.spare }
-    {
-        let index = self.values.len() as u32;
-        self.values.push_reserved(item);
-        self.indices.push_all(index, times);
-    }
-
-    /// How many items there can be without another reservation.
-    pub fn limit(&self) -> usize
-        ensures { result ≡ length self.now.items + self.now.spare }
-    {
-        self.indices.limit()
-    }
-
     /// The number of items.
     pub fn len(&self) -> usize
         ensures { result ≡ length self.now.items }
     {
         self.indices.len()
-    }
-
-    /// Whether the item after item `number` is known to be the same. `false` says nothing.
-    #[inline(always)]
-    pub fn stays(&self, number: usize) -> bool
-        requires { number + 1 < length self.now.items }
-        ensures { result ≡ true → slice_get self.now.items (number + 1)
-            ≡ slice_get self.now.items number }
-    {
-        self.indices.stays(number)
     }
 
     /// Which items of a block of 64 are known to be the same as the next ones.

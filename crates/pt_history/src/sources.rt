@@ -2,8 +2,9 @@
 
 ghost use Rattle.std.specs.Prelude.{◌≡◌, ◌+◌, ◌<◌, ◌≤◌, ◌-◌, ◌++◌, ◌∷◌, [], OnOk, Some, length, map, slice_get, vec_len, vec_capacity};
 ghost use Rattle.pt_history.specs.declared.sources.Source.TheVariants.{Claim};
-ghost use Rattle.pt_history.specs.Sources.{claim_numbers, sources_of};
+ghost use Rattle.pt_history.specs.Sources.{sources_of};
 
+use crate::numbers::push_number;
 use crate::pieces::{MOST_ITEMS, widened};
 use pt_tags::Memory;
 use std::alloc::Global;
@@ -141,25 +142,9 @@ fn store(in_order: &mut usize, claims: &mut Vec<u32>, rest: &mut Vec<Source>, so
 {
     if rest.is_empty() {
         if let Source::Claim(number) = source {
-            store_claim(in_order, claims, number);
+            push_number(in_order, claims, number);
             return;
         }
     }
     rest.push_reserved(source);
-}
-
-/// Appends the index of a claim. It is only counted if it is the number of indices before it, and so are all of those.
-fn store_claim(in_order: &mut usize, claims: &mut Vec<u32>, number: u32)
-    requires { vec_len claims.old < vec_capacity claims.old }
-    ensures numbers { claim_numbers in_order.new claims.new.items
-        ≡ claim_numbers in_order.old claims.old.items ++ number ∷ [] }
-    ensures room { vec_capacity claims.old ≤ vec_capacity claims.new }
-    ensures few_claims { vec_len claims.new ≤ vec_len claims.old + 1 }
-    ensures few { in_order.new + vec_len claims.new ≤ in_order.old + vec_len claims.old + 1 }
-{
-    if claims.is_empty() && number as usize == *in_order {
-        *in_order += 1;
-        return;
-    }
-    claims.push_reserved(number);
 }
