@@ -10,3 +10,4 @@ pub mod Bounds
 pub mod Units
 pub mod Candidates
 pub mod Free
+pub mod NotDue

@@ -108,7 +108,7 @@ has_rested p r most next history handed is is_next before rises turns sent fits 
     turns = turns ∙ ap (kept_with p.progress.history.turns) (sym (turn_is r p.progress.lists is.empty));
     tasks = sym (ap (λ ts. handed ++ ts) is.empty.claimed ∙ append-nil handed);
   };
-  sound = record { groups = is.sound.groups; states = is.sound.states; open_claims = is.sound.open_claims; links = is.sound.links; at_units = is.sound.at_units };
+  sound = record { groups = is.sound.groups; states = is.sound.states; open_claims = is.sound.open_claims; links = is.sound.links; at_units = is.sound.at_units; none_safe = is.sound.none_safe };
   sensors = is.sensors;
   all_rows = λ a. refl;
   reading = refl;

@@ -120,7 +120,7 @@ is_lighter p l m outbox history is w =
     (front p l m outbox history w) (may_follow l m (last_sent p.progress.history.turns) w.on w.few) in
     record {
       admitted = is.admitted;
-      sound = record { groups = is.sound.groups; states = is.sound.states; open_claims = is.sound.open_claims; links = w.links ∙ is.sound.links; at_units = is.sound.at_units };
+      sound = record { groups = is.sound.groups; states = is.sound.states; open_claims = is.sound.open_claims; links = w.links ∙ is.sound.links; at_units = is.sound.at_units; none_safe = is.sound.none_safe };
       sensors = is.sensors;
       fit = is.fit;
       closing = is.closing;

@@ -106,7 +106,7 @@ is_platform p sensors a k d next_row row is may set_is no_later before =
     let later : (r : ℕ) → r < row.seen → SeenAfter r (just a row) = λ r lt b. each_just (λ (x : Row). r < x.seen) a b row lt in
     record {
       admitted = is.admitted;
-      sound = record { groups = is.sound.groups; states = is.sound.states; open_claims = is.sound.open_claims; links = is.sound.links; at_units = is.sound.at_units };
+      sound = record { groups = is.sound.groups; states = is.sound.states; open_claims = is.sound.open_claims; links = is.sound.links; at_units = is.sound.at_units; none_safe = is.sound.none_safe };
       sensors = new.sensors;
       fit = subst (FitRows g) (sym rows) (rows_next g (rows_at_sensors ss) a row is.fit (record { fits = may.may.next.fits; times = may.may.next.times; seen = may.may.next.seen }));
       closing = is.closing;
@@ -169,7 +169,7 @@ is_same p sensors same is =
     let s : State = state_at (view_of p) in
     record {
       admitted = is.admitted;
-      sound = record { groups = is.sound.groups; states = is.sound.states; open_claims = is.sound.open_claims; links = is.sound.links; at_units = is.sound.at_units };
+      sound = record { groups = is.sound.groups; states = is.sound.states; open_claims = is.sound.open_claims; links = is.sound.links; at_units = is.sound.at_units; none_safe = is.sound.none_safe };
       sensors = subst (AreSensors g) (sym same) is.sensors;
       fit = subst (λ ss. FitRows g (rows_at_sensors ss)) (sym same) is.fit;
       closing = is.closing;

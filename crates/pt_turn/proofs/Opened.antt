@@ -1,5 +1,5 @@
 -- The state that opened fields stand for.
-use Rattle.std.proofs.Common.{◌≡◌, ℕ, ◌==◌, if◌then◌else◌, List, [], None, false, length, map, sym, ap, subst, ◌∙◌}
+use Rattle.std.proofs.Common.{◌≡◌, ℕ, ◌==◌, if◌then◌else◌, List, [], None, false, length, map, sym, ap, subst, ◌∙◌, arith}
 use Rattle.std.proofs.lemmas.List.{length-map}
 use Rattle.pt_types.specs.declared.rows.Row.{Row}
 use Rattle.pt_types.specs.declared.graph.Graph.{Graph}
@@ -38,11 +38,12 @@ opened_is g i f handed given waits claimed states sensors outbox reading closed 
     left : left_in f.sensors.items ≡ (λ a. if platform_of g a == i then rows_at_sensors f.sensors.items a else [])
     left = ap left_in sensors ∙ left_rows g i handed given ∙ ap at_home (sym (ap rows_at_sensors sensors ∙ rows_same handed))
 
-pub sound_is : (g : Graph) (i : ℕ) (f : Fields) → AreGroups g f.queue.groups → waiting_in f.queue.events ≡ starting g i → f.open_claims.items ≡ [] → f.states.items ≡ map first_of_actor g.actors → f.outbox.links ≡ length g.links → IsSound g f
-sound_is g i f groups waits claimed states links = record {
+pub sound_is : (g : Graph) (i : ℕ) (f : Fields) → AreGroups g f.queue.groups → waiting_in f.queue.events ≡ starting g i → f.open_claims.items ≡ [] → f.states.items ≡ map first_of_actor g.actors → f.outbox.links ≡ length g.links → f.none_safe_before ≡ 0 → IsSound g f
+sound_is g i f groups waits claimed states links none = record {
   groups = groups;
   states = ap length states ∙ length-map g.actors first_of_actor;
   open_claims = subst (λ claims. Each (IsOpen g claims) claims) (sym claimed) tt;
   links = links;
   at_units = λ a p t v h. starting_unit g i a p t v (ap (λ (w : Values). w a p t) (sym waits) ∙ h);
+  none_safe = λ r lt. absurd (omega (arith, none, lt));
 }

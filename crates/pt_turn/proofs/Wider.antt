@@ -1,5 +1,5 @@
 -- With more memory it is the same platform.
-use Rattle.std.proofs.Common.{◌≡◌, ℕ, ◌≤◌, List, Option, Some, None, length, sym, ap, subst, ◌∙◌, arith}
+use Rattle.std.proofs.Common.{◌≡◌, ℕ, ◌<◌, ◌≤◌, List, Option, Some, None, length, sym, ap, subst, ◌∙◌, arith}
 use Rattle.std.specs.Prelude.{MatchOption}
 use Rattle.std.specs.Arc.{arc_value}
 use Rattle.std.proofs.lemmas.List.Sums.{count_by-le-length}
@@ -11,6 +11,7 @@ use Rattle.pt_semantics.specs.Lists.{Each}
 use Rattle.pt_semantics.specs.Paced.{IsNextReading}
 use Rattle.pt_semantics.specs.Platform.{State}
 use Rattle.pt_semantics.specs.Rows.{FitRows}
+use Rattle.pt_semantics.specs.Safe.{NothingSafe}
 use Rattle.pt_causality.specs.Ranked.{level_of}
 use Rattle.pt_turn.specs.Fields.Sensors.{AreSensors}
 use Rattle.pt_history.specs.declared.history.History.{History}
@@ -52,6 +53,9 @@ sound_still g old new w is = record {
   open_claims = subst (λ cs. Each (IsOpen g cs) cs) (sym w.open_claims) is.open_claims;
   links = w.outbox.links ∙ is.links;
   at_units = λ a p t v h. is.at_units a p t v (subst (λ es. waiting_in es a p t ≡ Some v) w.events h);
+  none_safe = λ r lt.
+      subst (λ cs. NothingSafe g (waiting_in new.queue.events) (busy_in cs) r) (sym w.open_claims)
+      (subst (λ es. NothingSafe g (waiting_in es) (busy_in old.open_claims.items) r) (sym w.events) (is.none_safe r (subst (λ n. r < n) w.none_safe_before lt)));
 }
 
 due_still : (g : Graph) (r : ℕ) (old new : Fields) → AreWider old new → count_due g r new ≡ count_due g r old

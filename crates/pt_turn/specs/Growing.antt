@@ -35,6 +35,7 @@ pub record AreWider (old new : Fields) : Type 0 where
   pub reading : new.reading ≡ old.reading
   pub closed : new.closed ≡ old.closed
   pub claims : new.claims ≡ old.claims
+  pub none_safe_before : new.none_safe_before ≡ old.none_safe_before
 
 -- the same lists of a turn, and no less capacity
 pub record ListsAreWider (old new : Lists) : Type 0 where

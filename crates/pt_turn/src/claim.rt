@@ -17,6 +17,7 @@ mod claiming;
 mod cut;
 mod early;
 mod front;
+mod none_safe;
 mod order;
 mod paced;
 mod safe;

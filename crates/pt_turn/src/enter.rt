@@ -4,6 +4,7 @@
 //!
 //! Read first: `enter`, then `after_rows` in `specs/Entering.antt` of pt_semantics.
 
+mod due_from;
 mod due_rows;
 mod entering;
 mod next_row;

@@ -56,5 +56,6 @@ pub fn open_fields(
         reading: None,
         closed: false,
         claims: 0,
+        none_safe_before: 0,
     })
 }

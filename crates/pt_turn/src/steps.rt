@@ -79,8 +79,9 @@ pub fn turn(
     let plan = setup.plan;
     let graph = plan.graph();
     posts(fields, graph, plan.branches(), dones, &mut lists.posted);
-    enter_from(fields, graph, reading, next_row, &mut lists.rows);
-    let late = takes(fields, graph, plan.offsets(), messages, &mut lists.taken);
+    let offsets = plan.offsets();
+    enter_from(fields, graph, offsets, reading, next_row, &mut lists.rows);
+    let late = takes(fields, graph, offsets, messages, &mut lists.taken);
     fields.reading = Some(reading);
     let ending = claim_unless(late, fields, plan, reading, most, &mut lists.claimed);
     close(fields, graph, setup.number, setup.closing, reading, late);

@@ -4,17 +4,19 @@ use Rattle.std.specs.List.{range_with_len}
 use Rattle.std.proofs.lemmas.Bool.{cases_Bool, cond-true, cond-false, false≢true}
 use Rattle.std.proofs.lemmas.Bool.Decides.{nat_tests}
 use Rattle.pt_tags.specs.declared.tag.Tag.{Tag}
+use Rattle.pt_tags.specs.Tags.{same_tag}
 use Rattle.pt_types.specs.declared.graph.Graph.{Graph}
 use Rattle.pt_types.specs.declared.rows.Row.{Row}
 use Rattle.pt_types.specs.declared.rows.RowAt.{RowAt}
 use Rattle.pt_types.specs.Ports.{when}
 use Rattle.pt_semantics.specs.Entering.{due, not_due, all_due}
 use Rattle.pt_semantics.specs.Floor.{NothingThere}
-use Rattle.pt_semantics.specs.Lists.{Each, or_else, first_of}
-use Rattle.pt_semantics.specs.Meaning.{Values, added, row_at}
+use Rattle.pt_semantics.specs.Lists.{Each, IsIn, or_else, first_of}
+use Rattle.pt_semantics.specs.Meaning.{Values, added, at_time, row_at}
 use Rattle.pt_semantics.specs.Rows.{TimesRise}
 use Rattle.pt_semantics.specs.Units.{at_input}
-use Rattle.pt_semantics.proofs.Lookups.{none_some, or_else_none, or_else_assoc, when_found, when_none}
+use Rattle.pt_semantics.proofs.Lookups.{none_some, or_else_none, or_else_assoc, when_found, when_none, first_of_found, IsIn-append_left, IsIn-append_right}
+use Rattle.pt_semantics.proofs.Tags.{same_tag-true}
 use Rattle.pt_causality.specs.Units.{IsUnit}
 use Rattle.pt_turn.specs.declared.state.fields.Sensor.{Sensor}
 use Rattle.pt_turn.specs.Fields.State.{left_in, rows_left, rows_at_sensors}
@@ -198,6 +200,30 @@ each_after g r (x ∷ xs) (y ∷ ys) len h each =
       },
       each_after g r xs ys (omega (arith, len)) (λ k lt. h (suc k) (omega (arith, lt))) each.1,
     )
+
+in_map : {X Y : Type 0} (f : X → Y) (xs : List X) (x : X) → IsIn x xs → IsIn (f x) (map f xs)
+in_map f [] x mem = absurd mem
+in_map f (y ∷ ys) x mem = ⊎_elim (λ (is : x ≡ y). inl (ap f is)) (λ (rest : IsIn x ys). inr (in_map f ys x rest)) mem
+
+-- what they bring is a row that is due
+pub brought_row : (r : ℕ) (ss : List Sensor) (a p : ℕ) (t : Tag) (v : ℤ) → brought r ss a p t ≡ Some v → (x : RowAt) × IsIn x (due_rows r ss) × (x.sensor ≡ a) × (p ≡ 0) × (at_time x.row.time ≡ t)
+brought_row r ss a p t v h =
+    let f = when_found (p == 0) (row_at (due r (left_in ss a)) t) v h in
+    let found = row ss f.1 in
+    (found.0, found.1, found.2, eqb-true p 0 f.0, found.3)
+  where
+    row : (xs : List Sensor) → row_at (due r (left_in xs a)) t ≡ Some v → (x : RowAt) × IsIn x (due_rows r xs) × (x.sensor ≡ a) × (at_time x.row.time ≡ t)
+    row [] k = absurd (none_some v k)
+    row (x ∷ xs) k =
+        ⊎_elim
+        (λ (e : (x.actor == a) ≡ true).
+        let at = first_of_found (λ (y : Row). when (same_tag (at_time y.time) t) (Some y.value)) (due_of r x) v (ap (λ rows. row_at (due r rows) t) (sym (left_here x xs a e)) ∙ k) in
+        let tag = when_found (same_tag (at_time at.0.time) t) (Some at.0.value) v at.2 in
+        (at_sensor x.actor at.0, IsIn-append_left (at_sensor x.actor at.0) (map (at_sensor x.actor) (due_of r x)) (due_rows r xs) (in_map (at_sensor x.actor) (due_of r x) at.0 at.1), eqb-true x.actor a e, same_tag-true (at_time at.0.time) t tag.0))
+        (λ (e : (x.actor == a) ≡ false).
+        let rest = row xs (ap (λ rows. row_at (due r rows) t) (sym (left_other x xs a e)) ∙ k) in
+        (rest.0, IsIn-append_right rest.0 (map (at_sensor x.actor) (due_of r x)) (due_rows r xs) rest.1, rest.2, rest.3))
+        (cases_Bool (x.actor == a))
 
 -- what they bring comes to units of the graph
 pub brought_unit : (g : Graph) (r : ℕ) (ss : List Sensor) → RiseFrom 0 ss → Each (IsSensor g) ss → (a p : ℕ) (t : Tag) (v : ℤ) → brought r ss a p t ≡ Some v → IsUnit g (at_input g a p)

@@ -166,11 +166,12 @@ carried_unit g link m is a p t v h =
     let w = and_parts (a == link.to) (p == 0) (when_found (a == link.to && p == 0) (value_of t m) v h).0 in
     subst (λ b. IsUnit g (at_input g b p)) (sym (eqb-true a link.to w.0)) (subst (λ q. IsUnit g (at_input g link.to q)) (sym (eqb-true p 0 w.1)) is)
 
-pub sound_on : (g : Graph) (old new : Fields) (link : Link) (m : Message) → IsSound g old → IsUnit g (at_input g link.to 0) → new.queue.groups ≡ old.queue.groups → waiting_in new.queue.events ≡ added (waiting_in old.queue.events) (carried link m) → IsFrame old new → IsSound g new
-sound_on g old new link m h unit groups waits frame = record {
+pub sound_on : (g : Graph) (old new : Fields) (link : Link) (m : Message) → IsSound g old → IsUnit g (at_input g link.to 0) → new.queue.groups ≡ old.queue.groups → waiting_in new.queue.events ≡ added (waiting_in old.queue.events) (carried link m) → IsFrame old new → new.none_safe_before ≡ 0 → IsSound g new
+sound_on g old new link m h unit groups waits frame none = record {
   groups = subst (AreGroups g) (sym groups) h.groups;
   states = ap (λ v. length v.items) frame.1 ∙ h.states;
   open_claims = subst (λ v. Each (IsOpen g v.items) v.items) (sym frame.0) h.open_claims;
   links = ap (λ v. v.links) frame.3 ∙ h.links;
   at_units = λ a p t v is. ⊎_elim (h.at_units a p t v) (carried_unit g link m unit a p t v) (or_else_found (waiting_in old.queue.events a p t) (carried link m a p t) v (sym (ap (λ (w : Values). w a p t) waits) ∙ is));
+  none_safe = λ r lt. absurd (omega (arith, none, lt));
 }

@@ -1,5 +1,5 @@
 -- The state that the fields of a platform represent.
-use Rattle.std.specs.Prelude.{◌≡◌, ℕ, ◌==◌, List, [], Option, Some, None, ℤ, pos, drop, length, slice_index_or, unwrap_or}
+use Rattle.std.specs.Prelude.{◌≡◌, ◌<◌, ℕ, ◌==◌, List, [], Option, Some, None, ℤ, pos, drop, length, slice_index_or, unwrap_or}
 use Rattle.pt_tags.specs.declared.tag.Tag.{Tag}
 use Rattle.pt_types.specs.declared.graph.Graph.{Graph}
 use Rattle.pt_types.specs.declared.rows.Row.{Row}
@@ -11,6 +11,7 @@ use Rattle.pt_semantics.specs.Lists.{first_of, Each, IsIn}
 use Rattle.pt_semantics.specs.Units.{at_input, same_part, unit_of}
 use Rattle.pt_semantics.specs.Platform.{State}
 use Rattle.pt_semantics.specs.Closing.{on_link}
+use Rattle.pt_semantics.specs.Safe.{NothingSafe}
 use Rattle.pt_causality.specs.Units.{IsUnit}
 use Rattle.pt_queue.specs.Groups.{AreGroups}
 use Rattle.pt_queue.specs.Events.{waiting_in}
@@ -63,10 +64,16 @@ abbrev pub IsFound : List OpenClaim → Task → Option Unit → Type 0
 IsFound claims task None = (c : OpenClaim) → IsIn c claims → c.task ≡ task → ⊥
 IsFound claims task (Some u) = (c : OpenClaim) × IsIn c claims × (c.unit ≡ u) × (c.task ≡ task)
 
--- the invariant of the fields: tables and the outbox fit this graph, open claims are sound, and events wait only at inputs of its units
+-- no unit is safe at a reading below n
+abbrev pub NoneSafeBefore : Graph → Fields → ℕ → Type 0
+NoneSafeBefore g f n = (r : ℕ) → r < n → NothingSafe g (waiting_in f.queue.events) (busy_in f.open_claims.items) r
+
+-- the invariant of the fields: tables and the outbox fit this graph, open claims are sound, and events wait only at inputs of its units,
+-- and no unit is safe where the fields say so
 pub record IsSound (g : Graph) (f : Fields) : Type 0 where
   pub groups : AreGroups g f.queue.groups
   pub states : length f.states.items ≡ length g.actors
   pub open_claims : Each (IsOpen g f.open_claims.items) f.open_claims.items
   pub links : f.outbox.links ≡ length g.links
   pub at_units : (a p : ℕ) (t : Tag) (v : ℤ) → waiting_in f.queue.events a p t ≡ Some v → IsUnit g (at_input g a p)
+  pub none_safe : NoneSafeBefore g f f.none_safe_before

@@ -1,6 +1,6 @@
 //! Claiming one unit, and all the claims of a turn.
 
-ghost use Rattle.std.specs.Prelude.{IfSome, ◌≡◌, ◌+◌, ◌<◌, ◌≤◌, ◌∷◌, [], None, false, List as Sequence, length, vec_len, vec_capacity};
+ghost use Rattle.std.specs.Prelude.{IfSome, ◌≡◌, ◌+◌, ◌<◌, ◌≤◌, ◌∷◌, [], None, false, true, List as Sequence, length, vec_len, vec_capacity};
 ghost use Rattle.pt_types.specs.declared.firing.OnLink.{OnLink};
 ghost use Rattle.pt_semantics.specs.Claiming.{after_claim};
 ghost use Rattle.pt_semantics.specs.Units.{HasEvent};
@@ -10,8 +10,10 @@ ghost use Rattle.pt_queue.specs.Events.{waiting_in};
 ghost use Rattle.pt_turn.specs.Fields.State.{busy_in, state_of, states_in, IsSound};
 ghost use Rattle.pt_turn.specs.Claims.Claimed.{AreClaimed, IsTaskOf, OthersStay};
 ghost use Rattle.pt_turn.specs.Claims.Fronts.{AreBothSafe, AreFront};
+ghost use Rattle.pt_turn.specs.Claiming.{IsIdle};
 
 use crate::claim::front::{Front, Several, alone};
+use crate::claim::none_safe::none_safe_before;
 use crate::state::{Fields, OpenClaim};
 use pt_offsets::Plan;
 use pt_queue::Waiting;
@@ -70,13 +72,14 @@ pub fn claim(fields: &mut Fields, plan: &Plan, next: Waiting) -> Task
     fields.open_claims.add(open_claim(next.unit, &task));
     show_admitted(plan);
     fields.claims += 1;
+    fields.none_safe_before = 0;
     task
 }
 
 /// Claims safe units, each time the one with the least tag, actor and group, and appends their tasks.
 /// (The order is this project's own choice.)
 ///
-/// If few units have events it is first tried whether only one of them is safe: to clear a front takes longer.
+/// No unit is asked where none is known to be safe: after a search that left none, until something changes or another unit is due.
 ///
 /// Stops once no unit is safe at this reading (in microseconds), after `most` claims, or when the platform has made all
 /// that the graph allows. Allocates nothing.
@@ -97,18 +100,49 @@ pub fn claims(
     ensures others { OthersStay fields.old fields.new }
     ensures tasks { vec_capacity tasks.old ≤ vec_capacity tasks.new }
 {
-    if fields.queue.are_many() {
-        claim_several(fields, plan, reading, most, None, tasks);
+    if reading < fields.none_safe_before {
         return;
     }
+    let before = tasks.len();
+    if !claim_safe(fields, plan, reading, most, tasks) {
+        return;
+    }
+    let claimed = before < tasks.len();
+    fields.none_safe_before = none_safe_before(fields, plan, reading, claimed);
+}
+
+/// Claims safe units, as `claims` does, and returns whether none is left; it may say `false` of none.
+///
+/// If few units have events it is first tried whether only one of them is safe: to clear a front takes longer.
+fn claim_safe(
+    fields: &mut Fields,
+    plan: &Plan,
+    reading: Reading,
+    most: usize,
+    tasks: &mut Vec<Task>,
+) -> bool
+    requires sound { IsSound plan.now.graph fields.old }
+    requires claims { fields.old.claims ≤ plan.now.graph.claims }
+    requires room { most ≤ fields.old.open_claims.spare }
+    requires tasks { vec_len tasks.old + most ≤ vec_capacity tasks.old }
+    ensures claimed { AreClaimed plan.now.graph reading most fields.old fields.new tasks.old.items
+        tasks.new.items }
+    ensures idle { result ≡ true → IsIdle plan.now.graph fields.new reading }
+    ensures sound { IsSound plan.now.graph fields.new }
+    ensures others { OthersStay fields.old fields.new }
+    ensures tasks { vec_capacity tasks.old ≤ vec_capacity tasks.new }
+{
+    if fields.queue.are_many() {
+        return claim_several(fields, plan, reading, most, None, tasks);
+    }
     match alone(fields, plan, reading) {
-        Ok(None) => (),
+        Ok(None) => true,
         Ok(Some(next)) => claim_alone(fields, plan, reading, most, next, tasks),
         Err(several) => claim_several(fields, plan, reading, most, Some(several), tasks),
     }
 }
 
-/// Claims the only safe unit, unless `most` is 0 or the platform has made all its claims.
+/// Claims the only safe unit, unless `most` is 0 or the platform has made all its claims; returns whether it did.
 fn claim_alone(
     fields: &mut Fields,
     plan: &Plan,
@@ -116,7 +150,7 @@ fn claim_alone(
     most: usize,
     next: Waiting,
     tasks: &mut Vec<Task>,
-)
+) -> bool
     requires sound { IsSound plan.now.graph fields.old }
     requires claims { fields.old.claims ≤ plan.now.graph.claims }
     requires room { most ≤ fields.old.open_claims.spare }
@@ -125,18 +159,21 @@ fn claim_alone(
         (busy_in fields.old.open_claims.items) reading false (next ∷ []) }
     ensures claimed { AreClaimed plan.now.graph reading most fields.old fields.new tasks.old.items
         tasks.new.items }
+    ensures idle { result ≡ true → IsIdle plan.now.graph fields.new reading }
     ensures sound { IsSound plan.now.graph fields.new }
     ensures others { OthersStay fields.old fields.new }
     ensures tasks { vec_capacity tasks.old ≤ vec_capacity tasks.new }
 {
     if most == 0 || fields.claims >= plan.graph().claims {
-        return;
+        return false;
     }
     let task = claim(fields, plan, next);
     tasks.push_reserved(task);
+    true
 }
 
-/// Claims safe units in order, as `claims` does, however many they are. Two of them may be `known` already.
+/// Claims safe units in order, as `claims` does, however many they are, and returns whether none is left; it may say `false` of
+/// none. Two of them may be `known` already.
 fn claim_several(
     fields: &mut Fields,
     plan: &Plan,
@@ -144,7 +181,7 @@ fn claim_several(
     most: usize,
     known: Option<Several>,
     tasks: &mut Vec<Task>,
-)
+) -> bool
     requires sound { IsSound plan.now.graph fields.old }
     requires claims { fields.old.claims ≤ plan.now.graph.claims }
     requires room { most ≤ fields.old.open_claims.spare }
@@ -153,6 +190,7 @@ fn claim_several(
         (busy_in fields.old.open_claims.items) reading) }
     ensures claimed { AreClaimed plan.now.graph reading most fields.old fields.new tasks.old.items
         tasks.new.items }
+    ensures idle { result ≡ true → IsIdle plan.now.graph fields.new reading }
     ensures sound { IsSound plan.now.graph fields.new }
     ensures others { OthersStay fields.old fields.new }
     ensures tasks { vec_capacity tasks.old ≤ vec_capacity tasks.new }
@@ -161,14 +199,15 @@ fn claim_several(
     front.refill(fields, plan, reading, known, most);
     for _ in 0..most {
         if fields.claims >= plan.graph().claims {
-            return;
+            return false;
         }
         match front.take(fields, plan, reading) {
-            None => return,
+            None => return true,
             Some(next) => {
                 let task = claim(fields, plan, next);
                 tasks.push_reserved(task);
             }
         }
     }
+    false
 }

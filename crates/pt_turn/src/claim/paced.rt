@@ -23,6 +23,17 @@ fn just_past(time: Time, offset: i64) -> u64
     time.saturating_add(offset as u64 + 1)
 }
 
+/// The paced reading of a tag at a unit with this offset: time + offset + 1, but at least 0 and at most `u64::MAX`, and 0 without an
+/// offset. All are microseconds.
+pub fn paced_reading(offset: Option<i64>, tag: Tag) -> u64
+    ensures { result ≡ min (2 ^ 64 - 1) (paced_by offset tag) }
+{
+    match offset {
+        None => 0,
+        Some(offset) => just_past(tag.time, offset),
+    }
+}
+
 /// The lesser of `so_far` and the paced reading of a tag at a unit with this offset: time + offset + 1, but at least 0, and 0
 /// without an offset. All are microseconds.
 fn sooner_paced(offset: Option<i64>, tag: Tag, so_far: u64) -> u64

@@ -182,4 +182,5 @@ pub fn enter(fields: &mut Fields, graph: &Graph, reading: Reading, kept: &mut Ve
         );
         fields.sensors[i].entered = entered;
     }
+    fields.none_safe_before = 0;
 }

@@ -3,27 +3,32 @@
 ghost use Rattle.std.specs.Prelude.{◌≡◌, ℕ, ◌+◌, ◌≤◌, ◌++◌, List as Sequence, length, vec_len, vec_capacity};
 ghost use Rattle.pt_types.specs.declared.firing.OnLink.{OnLink};
 ghost use Rattle.pt_semantics.specs.Entering.{after_rows, all_due};
+ghost use Rattle.pt_offsets.specs.Plans.{AreOffsets};
 ghost use Rattle.pt_turn.specs.Fields.State.{state_of, left_in, rows_at_sensors, IsSound};
 ghost use Rattle.pt_turn.specs.Fields.Sensors.{AreSensors, NeverEnters};
 ghost use Rattle.pt_turn.specs.Steps.{NoneSeenBefore};
 
+use crate::enter::due_from::none_safe_with;
 use crate::enter::{enter, next_seen};
 use crate::state::Fields;
+use pt_offsets::Offsets;
 use pt_tags::Reading;
 use pt_types::{Graph, RowAt};
 
-/// All rows seen by a reading enter, as `enter` lets them. No row is seen by a reading below `next_row`, which is
+/// All rows seen by a reading enter, as `enter` lets them. They make no unit safe before they are due. No row is seen by a reading below `next_row`, which is
 /// then found anew if the reading has reached it; at most turns it hasn't. Both are microseconds. Allocates nothing.
 #[inline(always)]
 pub fn enter_from(
     fields: &mut Fields,
     graph: &Graph,
+    offsets: &Offsets,
     reading: Reading,
     next_row: &mut u64,
     kept: &mut Vec<RowAt>,
 )
     requires sound { IsSound graph.now fields.old }
     requires sensors { AreSensors graph.now fields.old.sensors.items }
+    requires offsets { AreOffsets graph.now offsets.now }
     requires never { (taken : Sequence OnLink) → NeverEnters (state_of fields.old taken) reading }
     requires events { length (all_due graph.now reading (left_in fields.old.sensors.items))
         ≤ fields.old.queue.spare }
@@ -52,6 +57,8 @@ pub fn enter_from(
     if reading < *next_row {
         return;
     }
+    let before = fields.none_safe_before;
     enter(fields, graph, reading, kept);
+    fields.none_safe_before = none_safe_with(offsets, kept.as_slice(), before, reading);
     *next_row = next_seen(fields.sensors.as_slice());
 }

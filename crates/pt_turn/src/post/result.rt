@@ -69,6 +69,7 @@ pub fn post(fields: &mut Fields, graph: &Graph, branches: &Branches, done: &Done
                 done.task.tag,
                 &done.fired.outputs,
             );
+            fields.none_safe_before = 0;
             true
         }
     }

@@ -41,4 +41,6 @@ pub struct Fields {
     pub closed: bool,
     /// The number of claims made so far.
     pub claims: u64,
+    /// At no reading below this one is a unit safe, in microseconds; 0 if that isn't known.
+    pub none_safe_before: u64,
 }

@@ -82,6 +82,7 @@ pub fn takes(
             return true;
         }
         deliver(&mut fields.queue, link, message.message);
+        fields.none_safe_before = 0;
     }
     false
 }

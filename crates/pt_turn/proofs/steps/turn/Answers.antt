@@ -10,7 +10,7 @@ use Rattle.pt_semantics.specs.Taking.{Takes}
 use Rattle.pt_semantics.specs.Wired.{IsWired}
 use Rattle.pt_offsets.specs.Plans.{AreOffsets}
 use Rattle.pt_turn.specs.declared.state.fields.Fields.{Fields}
-use Rattle.pt_turn.specs.Fields.State.{busy_in, left_in, state_of}
+use Rattle.pt_turn.specs.Fields.State.{IsSound, busy_in, left_in, state_of}
 use Rattle.pt_turn.specs.Posts.Posted.{ArePosted, picked}
 use Rattle.pt_turn.specs.Takes.Taken.{Arrive, NeverTakes}
 use Rattle.pt_turn.specs.declared.claim_step.TurnEnd.{TurnEnd}
@@ -34,6 +34,11 @@ enter_from-requires-clause-never g c =
     let goes_on : IsGround c.graph-graph.result.now g.basis c.args.fields.now = subst (λ gr. IsGround gr g.basis c.args.fields.now) (sym c.graph-graph.ensures.value) c.requires.1.1.0 in
     λ taken. goes_on.never.rows c.posts.ensures.posted.posted (state_of c.posts.new.fields g.basis.taken) c.args.reading (c.posts.ensures.posted.posts g.basis.taken)
 
+pub enter_from-requires-clause-offsets : goal.enter_from-requires-clause-offsets
+enter_from-requires-clause-offsets g c =
+    let own : AreOffsets c.args.setup.now.plan.now.graph c.offsets-offsets.result.now = subst (AreOffsets c.args.setup.now.plan.now.graph) (sym c.offsets-offsets.ensures.value) c.offsets-offsets.ensures.admitted.offsets in
+    subst (λ z. AreOffsets z c.offsets-offsets.result.now) (sym c.graph-graph.ensures.value) own
+
 pub enter_from-requires-clause-events : goal.enter_from-requires-clause-events
 enter_from-requires-clause-events g c =
     let room : HasRoom c.graph-graph.result.now c.args.fields.now c.args.lists.now c.args.reading (length c.args.dones.now) (length c.args.messages.now) c.args.most = subst (λ gr. HasRoom gr c.args.fields.now c.args.lists.now c.args.reading (length c.args.dones.now) (length c.args.messages.now) c.args.most) (sym c.graph-graph.ensures.value) c.requires.1.1.1.1.1.1.1.1.1.1.0 in
@@ -52,10 +57,15 @@ takes-late-requires g c =
     let due : length (all_due gr c.args.reading (left_in c.posts.new.fields.sensors.items)) ≡ length (all_due gr c.args.reading (left_in c.args.fields.now.sensors.items)) = ap (λ v. length (all_due gr c.args.reading (left_in v.items))) c.posts.ensures.frame.0 in
     let events : length c.args.messages.now ≤ c.enter_from.new.fields.queue.spare = omega (arith, due, c.posts.ensures.events, c.enter_from.ensures.events, room.events) in
     let kept : vec_len c.args.lists.now.taken + length c.args.messages.now ≤ vec_capacity c.args.lists.now.taken = room.taken in
-    let offsets : AreOffsets gr c.offsets.result.now = subst (λ z. AreOffsets z c.offsets.result.now) (sym value) (subst (AreOffsets c.args.setup.now.plan.now.graph) (sym c.offsets.ensures.value) c.offsets.ensures.admitted.offsets) in
+    let offsets : AreOffsets gr c.offsets-offsets.result.now = subst (λ z. AreOffsets z c.offsets-offsets.result.now) (sym value) (subst (AreOffsets c.args.setup.now.plan.now.graph) (sym c.offsets-offsets.ensures.value) c.offsets-offsets.ensures.admitted.offsets) in
     let is_wired : IsWired gr = subst IsWired (sym value) (wired c.args.setup.now.plan.now.graph c.graph-graph.ensures.admitted.lawful) in
     let arrive : Arrive gr g.basis c.args.messages.now = subst (λ z. Arrive z g.basis c.args.messages.now) (sym value) c.requires.1.1.1.1.1.1.1.0 in
     (c.enter_from.ensures.sound, (is_wired, (offsets, (arrive, (never, (events, kept))))))
+
+pub claim_unless-ending-requires-clause-sound : goal.claim_unless-ending-requires-clause-sound
+claim_unless-ending-requires-clause-sound g c =
+    let is : IsSound c.args.setup.now.plan.now.graph c.takes-late.new.fields = subst (λ z. IsSound z c.takes-late.new.fields) c.graph-graph.ensures.value c.takes-late.ensures.sound in
+    record { groups = is.groups; states = is.states; open_claims = is.open_claims; links = is.links; at_units = is.at_units; none_safe = is.none_safe }
 
 pub close-requires-clause-closing : goal.close-requires-clause-closing
 close-requires-clause-closing g c = subst (λ z. IsClosing z c.args.setup.now.number c.args.setup.now.closing) (sym c.graph-graph.ensures.value) c.requires.1.1.1.1.0

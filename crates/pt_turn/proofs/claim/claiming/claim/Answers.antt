@@ -57,4 +57,5 @@ returns-clause-sound c =
           (subst (λ (o : OpenClaim). IsUnit g o.unit) (sym c.open_claim.ensures) c.requires.unit);
       links = c.requires.sound.links;
       at_units = λ a p t v there. c.requires.sound.at_units a p t v (without_found g old c.args.next.unit c.args.next.tag a p t v (sym (ap (λ f. f a p t) waits) ∙ there)).0;
+      none_safe = λ r lt. absurd (omega (arith, lt));
     }

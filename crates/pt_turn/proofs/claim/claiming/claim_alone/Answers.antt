@@ -49,3 +49,11 @@ returns-clause-claimed c =
       in_all = omega (arith, c.claim-task.ensures.claims, c.if-fields-graph.false, ap (λ (g : Graph). g.claims) c.graph.ensures.value);
       all_or = inl (nothing_left c.args.plan.now.graph (waiting_in c.claim-task.new.fields.queue.events) (busy_in c.claim-task.new.fields.open_claims.items) c.args.reading false [] left refl refl);
     }
+
+pub returns-clause-idle : goal.returns-clause-idle
+returns-clause-idle c = λ e.
+    let front : AreFront c.args.plan.now.graph (waiting_in c.args.fields.now.queue.events) (busy_in c.args.fields.now.open_claims.items) c.args.reading false (c.args.next ∷ []) = c.requires.front in
+    let left : AreFront c.args.plan.now.graph (waiting_in c.claim-task.new.fields.queue.events) (busy_in c.claim-task.new.fields.open_claims.items) c.args.reading false [] =
+    subst (λ (new : State). AreFront c.args.plan.now.graph new.waits new.busy c.args.reading false []) (sym (c.claim-task.ensures.after []))
+    (front_claimed c.args.plan.now.graph (state_of c.args.fields.now []) c.args.reading false c.args.next [] c.claim-task.result c.claim-task.ensures.task.tag front) in
+    nothing_left c.args.plan.now.graph (waiting_in c.claim-task.new.fields.queue.events) (busy_in c.claim-task.new.fields.open_claims.items) c.args.reading false [] left refl refl

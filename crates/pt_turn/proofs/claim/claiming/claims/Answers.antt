@@ -1,13 +1,9 @@
-use Rattle.std.proofs.Common.{[], false, refl, sym, subst, inl, arith}
+use Rattle.std.proofs.Common.{[], refl, sym, inl, arith}
 use Rattle.std.proofs.lemmas.List.{append-nil}
-use Rattle.pt_queue.specs.Events.{waiting_in}
-use Rattle.pt_turn.specs.Fields.State.{busy_in}
-use Rattle.pt_turn.specs.Claims.Fronts.{AreFront, one_of}
-use Rattle.pt_turn.proofs.Claims.Fronts.{nothing_left}
 use Rattle.pt_turn.proofs.claim.claiming.claims.Goals as goal
 
-pub returns-in-Ok-None-clause-claimed : goal.returns-in-Ok-None-clause-claimed
-returns-in-Ok-None-clause-claimed c = record {
+pub returns-then-reading-fields-clause-claimed : goal.returns-then-reading-fields-clause-claimed
+returns-then-reading-fields-clause-claimed c = record {
   claimed = [];
   appended = sym (append-nil c.args.tasks.now.items);
   claims = λ taken. refl;
@@ -15,5 +11,15 @@ returns-in-Ok-None-clause-claimed c = record {
   count = omega arith;
   open_claims = omega arith;
   in_all = c.requires.claims;
-  all_or = inl (nothing_left c.args.plan.now.graph (waiting_in c.args.fields.now.queue.events) (busy_in c.args.fields.now.open_claims.items) c.args.reading false [] (subst (λ o. AreFront c.args.plan.now.graph (waiting_in c.args.fields.now.queue.events) (busy_in c.args.fields.now.open_claims.items) c.args.reading false (one_of o)) c.in-Ok-None.field-0-is c.in-Ok-None.ensures.alone) refl refl);
+  all_or = inl (c.requires.sound.none_safe c.args.reading c.if-reading-fields.true);
 }
+
+pub returns-clause-claimed : goal.returns-clause-claimed
+returns-clause-claimed c =
+    let is = c.claim_safe.ensures.claimed in
+    record { claimed = is.claimed; appended = is.appended; claims = is.claims; at_most = is.at_most; count = is.count; open_claims = is.open_claims; in_all = is.in_all; all_or = is.all_or }
+
+pub returns-clause-sound : goal.returns-clause-sound
+returns-clause-sound c =
+    let is = c.claim_safe.ensures.sound in
+    record { groups = is.groups; states = is.states; open_claims = is.open_claims; links = is.links; at_units = is.at_units; none_safe = c.none_safe_before-fields.ensures }

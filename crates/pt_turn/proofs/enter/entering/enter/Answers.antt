@@ -223,6 +223,7 @@ returns-clause-sound c =
       open_claims = subst (λ v. Each (IsOpen c.args.graph.now v.items) v.items) (sym c.loop-i.invariant.frame.0) c.requires.sound.open_claims;
       links = ap (λ v. v.links) c.loop-i.invariant.frame.2 ∙ c.requires.sound.links;
       at_units = λ a p t v h. ⊎_elim (c.requires.sound.at_units a p t v) (brought_unit c.args.graph.now c.args.reading sensors c.requires.sensors.0 c.requires.sensors.1 a p t v) (or_else_found (waiting_in c.args.fields.now.queue.events a p t) (brought c.args.reading sensors a p t) v (sym (ap (λ (f : Values). f a p t) waits) ∙ h));
+      none_safe = λ r lt. absurd (omega (arith, lt));
     }
 
 pub returns-clause-sensors : goal.returns-clause-sensors

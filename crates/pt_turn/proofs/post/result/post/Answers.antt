@@ -55,6 +55,7 @@ returns-in-Some-clause-sound c = record {
   open_claims = c.take.ensures.open_claims c.args.graph.now c.requires.sound.open_claims;
   links = c.send.ensures.links ∙ c.requires.sound.links;
   at_units = subst (AtUnits c.args.graph.now) (sym c.emit.ensures.waits) (added_units c.args.graph.now (waiting_in c.args.fields.now.queue.events) _ c.requires.sound.at_units (going_units c.args.graph.now (leaves_unit c.args.graph.now c.in-Some.unit) c.args.done.now.task.tag c.args.done.now.fired.outputs c.requires.wired));
+  none_safe = λ r lt. absurd (omega (arith, lt));
 }
 
 pub returns-in-Some-clause-claimed : goal.returns-in-Some-clause-claimed

@@ -65,10 +65,10 @@ loop-message-preserved g c =
     let so_far : List OnLink = take c.loop-message.message-index c.args.messages.now in
     let front : take (c.loop-message.message-index + 1) c.args.messages.now ≡ so_far ++ m ∷ [] = take_more c.args.messages.now c.loop-message.message-index no_message c.loop-message-test.true in
     let old : State = state_of c.args.fields.now g.basis.taken in
-    let new : Fields = record c.loop-message.fields { queue = c.deliver.new.queue } in
+    let new : Fields = record c.loop-message.fields { queue = c.deliver.new.queue; none_safe_before = 0 } in
     let waits : waiting_in new.queue.events ≡ added (waiting_in c.loop-message.fields.queue.events) (carried come.link m.message) = c.deliver.ensures.waits ∙ ap (λ z. added (waiting_in c.loop-message.fields.queue.events) (carried z m.message)) link in
     record {
-      sound = sound_on graph c.loop-message.fields new come.link m.message c.loop-message.invariant.sound (receiver_unit graph m.link come.link c.requires.1.0 come.at) c.deliver.ensures.groups waits (refl, refl, refl, refl, refl, refl, refl);
+      sound = sound_on graph c.loop-message.fields new come.link m.message c.loop-message.invariant.sound (receiver_unit graph m.link come.link c.requires.1.0 come.at) c.deliver.ensures.groups waits (refl, refl, refl, refl, refl, refl, refl) refl;
       appended = c.in-Ok.ensures.items ∙ ap (λ xs. xs ++ m ∷ []) c.loop-message.invariant.appended ∙ append_assoc c.args.kept.now.items so_far (m ∷ []) ∙ ap (λ xs. c.args.kept.now.items ++ xs) (sym front);
       takes = subst (λ xs. Takes graph g.basis.level g.basis.platform old xs false (state_of new (g.basis.taken ++ xs))) (sym front)
           (subst (Takes graph g.basis.level g.basis.platform old (so_far ++ m ∷ []) false)
