@@ -7,11 +7,13 @@
 mod asking;
 mod laws;
 mod resting;
+mod rests;
 mod rounds;
 mod starting;
 
 pub use asking::{are_finished, first_fault, was_quiet};
 pub use laws::{may_come, shown_grows, start_shows, visit_shows};
 pub use resting::{all_idle_until, are_empty, idle_time};
+pub use rests::{Rests, SPARE};
 pub use rounds::{CLAIMS_A_TURN, ClockedRounds, Rounds};
 pub use starting::{no_results, pipes};

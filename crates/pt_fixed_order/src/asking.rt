@@ -4,19 +4,12 @@ ghost use Rattle.std.specs.Prelude.{◌≡◌, ◌<◌, ◌+◌, ◌⊎◌, Matc
 ghost use Rattle.pt_io.specs.Clocks.{viewed};
 ghost use Rattle.pt_fixed_order.specs.Asked.{HasNone, HasOne};
 
-use pt_engine::all_idle_until;
+use pt_engine::{Rests, all_idle_until};
 use pt_io::Clock;
 use pt_links::Pipe;
 use pt_tags::Reading;
 use pt_turn::{Platform, TurnFault};
 use std::thread::yield_now;
-
-/// How much earlier a rest ends than a clock's own wait would, in microseconds: the first visits after a long sleep are slow.
-const EARLIER: u64 = 100;
-
-/// A rest is begun only if nothing can happen for at least this long, in microseconds: a shorter one isn't worth its wake, which
-/// may come too late for a deadline that is near.
-const LONG: u64 = 2_000;
 
 /// The number of the platform that is visited after this one: the next, or after the last the first.
 pub fn after(count: usize, number: usize) -> usize
@@ -39,9 +32,9 @@ pub fn fault_of(platforms: &[Platform], place: usize) -> Option<(u32, TurnFault)
     }
 }
 
-/// The reading of the last turn of the platform that was visited last; 0 if there is none.
-fn latest_reading(platforms: &[Platform]) -> Reading {
-    match platforms.last() {
+/// The reading of the last turn of a platform; 0 if there is none.
+fn reading_of(platform: Option<&Platform>) -> Reading {
+    match platform {
         Some(platform) => platform.reading().unwrap_or(0),
         None => 0,
     }
@@ -49,16 +42,24 @@ fn latest_reading(platforms: &[Platform]) -> Reading {
 
 /// Before the first platform is visited again, if the clocks rise by themselves: lets time pass until something can happen on a
 /// platform, or, where that is soon, lets other processes run.
-pub fn rest<C: Clock>(platforms: &[Platform], pipes: &[Pipe], clocks: &mut [C], next: usize)
+pub fn rest<C: Clock>(
+    platforms: &[Platform],
+    pipes: &[Pipe],
+    clocks: &mut [C],
+    rests: &mut Rests,
+    next: usize,
+)
     ensures { viewed C.readings C.ahead clocks.new ≡ viewed C.readings C.ahead clocks.old }
 {
     if next != 0 || clocks.is_empty() || !clocks[0].rises_by_itself() {
         return;
     }
-    if let Some(until) = all_idle_until(platforms, pipes) {
-        if until.saturating_sub(latest_reading(platforms)) >= LONG {
-            clocks[0].wait(until - EARLIER);
-        }
-        yield_now();
+    rests.visited(reading_of(platforms.first()));
+    let Some(until) = all_idle_until(platforms, pipes) else {
+        return;
+    };
+    if let Some(awaited) = rests.begin(reading_of(platforms.last()), until) {
+        clocks[0].wait(awaited);
     }
+    yield_now();
 }

@@ -12,7 +12,7 @@ use crate::asking::{after, fault_of, rest};
 use crate::visiting::visit_at;
 use pt_actors::Done;
 use pt_blocks::Blocks;
-use pt_engine::are_finished;
+use pt_engine::{Rests, are_finished};
 use pt_io::Clock;
 use pt_links::Pipe;
 use pt_tags::Memory;
@@ -43,6 +43,7 @@ pub fn go_on<C: Clock, R: Wait>(
         IsOutcome plan rows most began (viewed C.readings C.ahead clocks.new) platforms.new fault) }
 {
     let mut number = 0;
+    let mut rests = Rests::new();
     for _ in rt.forever() {
         visit_at(
             platforms, clocks, pipes, results, desk, blocks, most, number,
@@ -54,7 +55,7 @@ pub fn go_on<C: Clock, R: Wait>(
             return Ok(None);
         }
         number = after(platforms.len(), number);
-        rest(platforms, pipes, clocks, number);
+        rest(platforms, pipes, clocks, &mut rests, number);
     }
     unreachable!()
 }

@@ -1,21 +1,15 @@
 //! How workers learn when to rest and when to end. No contract depends on it.
 
+use pt_engine::{Rests, SPARE};
+use pt_tags::Reading;
 use std::sync::atomic::{AtomicU64, Ordering};
 use std::sync::{Condvar, Wait};
 use std::thread::yield_now;
 use std::time::Duration;
 
-/// How much earlier than at the next reading a rest ends, in microseconds: a sleep takes longer than it should, and the first
-/// visits after it are slow.
-const SPARE: u64 = 250;
-
-/// A rest is begun only if nothing can happen for at least this long, in microseconds: a shorter one isn't worth its wake, which
-/// may come too late for a deadline that is near.
-const LONG: u64 = 2_000;
-
-/// The longest rest, in microseconds, or `LONG` more where too little would be left for another one. What happens meanwhile is
+/// The longest rest, in microseconds, or a tenth more where little would be left for another one. What happens meanwhile is
 /// announced, so it only bounds what a lost announcement costs.
-const LONGEST: u64 = 10_000;
+const LONGEST: u64 = 50_000;
 
 /// How many quiet rounds a worker makes before it rests, if a result is awaited: most firings take less time than a rest.
 const LOOKS: u64 = 64;
@@ -23,10 +17,19 @@ const LOOKS: u64 = 64;
 /// What a worker learns from a visit in which nothing happened.
 #[derive(Clone, Copy, Debug)]
 pub(crate) struct Quiet {
-    /// For this many microseconds nothing can happen on the platform, unless a result or a message comes.
-    pub(crate) micros: u64,
+    /// Before this reading, in microseconds, nothing can happen on the platform, unless a result or a message comes.
+    pub(crate) until: Reading,
     /// Whether a result is awaited.
     pub(crate) awaits: bool,
+}
+
+/// What a worker learns from a visit.
+#[derive(Clone, Copy, Debug)]
+pub(crate) struct Visited {
+    /// The reading of the platform's last turn, in microseconds; 0 if it made none.
+    pub(crate) reading: Reading,
+    /// What there is to learn if nothing happened.
+    pub(crate) quiet: Option<Quiet>,
 }
 
 /// How a visit ended, for the worker.
@@ -83,24 +86,23 @@ impl Signs {
 
     /// After a round in which nothing happened: rests while nothing can, unless something was announced since these rounds
     /// began, or lets other threads run if it is too early or too late for a rest. Returns what the next round begins with.
-    pub(crate) fn rest<R: Wait>(&self, rt: &R, calm: Calm) -> Calm {
-        if calm.micros < LONG || (calm.awaits && calm.rounds < LOOKS) {
+    pub(crate) fn rest<R: Wait>(&self, rt: &R, rests: &mut Rests, calm: Calm) -> Calm {
+        let Some(micros) = calm.rest_with(rests) else {
             yield_now();
             return calm.next_round();
-        }
-        let micros = one_rest(calm.micros - SPARE);
+        };
         self.news
             .sleep(rt, calm.announced, Duration::from_micros(micros));
         Calm::new(self)
     }
 }
 
-/// How long one rest lasts where so many microseconds can be rested: all of them, unless enough would be left for another rest.
-fn one_rest(micros: u64) -> u64 {
-    if micros < LONGEST + LONG {
-        micros
+/// The end of one rest from `now` on where nothing can happen until a reading: that reading, unless it is far.
+fn one_rest(now: Reading, until: Reading) -> Reading {
+    if until.saturating_sub(now) < LONGEST + LONGEST / 10 {
+        until
     } else {
-        LONGEST
+        now.saturating_add(LONGEST)
     }
 }
 
@@ -111,8 +113,10 @@ pub(crate) struct Calm {
     visits: usize,
     /// The rounds before this one.
     rounds: u64,
-    /// For how long nothing can happen on the platforms visited in this round, in microseconds.
-    micros: u64,
+    /// The latest reading of these visits, in microseconds.
+    latest: Reading,
+    /// Before this reading, in microseconds, nothing can happen on the platforms visited in this round.
+    until: Reading,
     /// Whether a result is awaited on one of them.
     awaits: bool,
     /// How often something had been announced before the first round.
@@ -125,17 +129,19 @@ impl Calm {
         Calm {
             visits: 0,
             rounds: 0,
-            micros: u64::MAX,
+            latest: 0,
+            until: Reading::MAX,
             awaits: false,
             announced: signs.news.notifications(),
         }
     }
 
-    /// With one more visit.
-    pub(crate) fn and(self, quiet: Quiet) -> Calm {
+    /// With one more visit, at this reading.
+    pub(crate) fn and(self, reading: Reading, quiet: Quiet) -> Calm {
         Calm {
             visits: self.visits.saturating_add(1),
-            micros: self.micros.min(quiet.micros),
+            latest: self.latest.max(reading),
+            until: self.until.min(quiet.until),
             awaits: self.awaits || quiet.awaits,
             ..self
         }
@@ -146,12 +152,22 @@ impl Calm {
         self.visits >= stations
     }
 
+    /// How long to rest now, in microseconds; `None` if it is too early or too late for a rest.
+    fn rest_with(self, rests: &mut Rests) -> Option<u64> {
+        if self.awaits && self.rounds < LOOKS {
+            return None;
+        }
+        let awaited = rests.begin(self.latest, one_rest(self.latest, self.until))?;
+        Some(awaited.saturating_sub(SPARE).saturating_sub(self.latest))
+    }
+
     /// Before the next round.
     fn next_round(self) -> Calm {
         Calm {
             visits: 0,
             rounds: self.rounds.saturating_add(1),
-            micros: u64::MAX,
+            latest: 0,
+            until: Reading::MAX,
             awaits: false,
             ..self
         }

@@ -7,16 +7,16 @@ ghost use Rattle.pt_workers.specs.Working.Orders.{numbers, count_up, order_weigh
 
 use crate::work::boards::{NewBoard, dismiss, staff};
 use crate::work::firing::Firing;
-use crate::work::signs::{Calm, Quiet, Signs, VisitEnd};
+use crate::work::signs::{Calm, Quiet, Signs, VisitEnd, Visited};
 use crate::work::threads::{Gate, SharedWork};
 use crate::work::worker_hand::WorkerHand;
 use pt_actors::{Done, Tasks};
 use pt_blocks::Blocks;
-use pt_engine::idle_time;
+use pt_engine::{Rests, idle_time};
 use pt_io::Clock;
 use pt_pool::station::{Boards, Station};
 use pt_pool::{LinkedPlatform, Run};
-use pt_tags::Memory;
+use pt_tags::{Memory, Reading};
 use pt_turn::Platform;
 use pt_types::Task;
 use std::alloc::Global;
@@ -38,6 +38,11 @@ fn was_quiet(platform: &Platform) -> bool {
     history.turns() != 0 && history.was_quiet()
 }
 
+/// The reading of a platform's last turn, in microseconds; 0 if it made none.
+fn reading_of(platform: &Platform) -> Reading {
+    platform.reading().unwrap_or(0)
+}
+
 /// What a worker learns from a visit of this station in which nothing happened.
 fn quiet_at<J: Run, B: Boards, C: Clock>(station: &Station<J, B, C>) -> Quiet {
     let platform = station.platform();
@@ -47,8 +52,30 @@ fn quiet_at<J: Run, B: Boards, C: Clock>(station: &Station<J, B, C>) -> Quiet {
         0
     };
     Quiet {
-        micros,
+        until: reading_of(platform).saturating_add(micros),
         awaits: platform.open_claims() != 0,
+    }
+}
+
+/// A visit of a station.
+#[derive(Clone, Copy, Debug)]
+struct Visit {
+    /// The number of the station's platform.
+    number: u32,
+    /// The reading of the platform's last turn, in microseconds; 0 if it made none.
+    reading: Reading,
+    end: VisitEnd,
+}
+
+/// How a visit of a station ended that moved its platform, which had finished before or not.
+fn end_of<J: Run, B: Boards, C: Clock>(station: &Station<J, B, C>, had_finished: bool) -> VisitEnd {
+    let platform = station.platform();
+    if !had_finished && platform.finished() {
+        VisitEnd::Finished
+    } else if was_quiet(platform) {
+        VisitEnd::Quiet(quiet_at(station))
+    } else {
+        VisitEnd::On
     }
 }
 
@@ -59,38 +86,32 @@ fn visit_station<J: Run, B: Boards, C: Clock, R: Wait>(
     station: &mut Station<J, B, C>,
     most: usize,
     tasks: &mut Tasks,
-) -> (u32, VisitEnd)
+) -> Visit
     requires most { (1 ≤ most) × (most ≤ 32) }
     ensures { station.new.linked.platform.number ≡ station.old.linked.platform.number }
 {
     let platform = station.platform();
     let number = platform.number();
-    if platform.fault().is_some() || station.marked() {
-        return (number, VisitEnd::Failed);
-    }
-    let was = platform.finished();
-    let Ok(()) = station.visit(rt, alloc, most, tasks) else {
-        return (number, VisitEnd::Failed);
-    };
-    let platform = station.platform();
-    if !was && platform.finished() {
-        (number, VisitEnd::Finished)
-    } else if was_quiet(platform) {
-        (number, VisitEnd::Quiet(quiet_at(station)))
+    let had_finished = platform.finished();
+    let failed = platform.fault().is_some()
+        || station.marked()
+        || station.visit(rt, alloc, most, tasks).is_err();
+    let end = if failed {
+        VisitEnd::Failed
     } else {
-        (number, VisitEnd::On)
+        end_of(station, had_finished)
+    };
+    let reading = reading_of(station.platform());
+    Visit {
+        number,
+        reading,
+        end,
     }
 }
 
 impl<J: Run, L: Ledger, B: Boards, C: Clock> GuardedStation<J, L, B, C> {
     /// Visits its station once. Tasks for which no slot on the board is free are added to `tasks`.
-    fn visit<R: Wait>(
-        &mut self,
-        rt: &R,
-        alloc: Global,
-        most: usize,
-        tasks: &mut Tasks,
-    ) -> (u32, VisitEnd)
+    fn visit<R: Wait>(&mut self, rt: &R, alloc: Global, most: usize, tasks: &mut Tasks) -> Visit
         requires most { (1 ≤ most) × (most ≤ 32) }
     {
         visit_station(rt, alloc, &mut self.station, most, tasks)
@@ -111,7 +132,7 @@ fn visit_at<J: Run, L: Ledger, B: Boards, C: Clock, R: Wait>(
     guarded: &Mutex<GuardedStation<J, L, B, C>>,
     most: usize,
     tasks: &mut Tasks,
-) -> (u32, VisitEnd)
+) -> Visit
     requires most { (1 ≤ most) × (most ≤ 32) }
 {
     guarded.lock(rt).visit(rt, alloc, most, tasks)
@@ -204,7 +225,7 @@ fn fire_left<J: Run, L: Ledger, B: Boards, C: Clock, G: Gate, R: Wait>(
 }
 
 /// Visits a station, and then, with the lock released, fires the tasks that are ready on its board. Returns what the
-/// worker learns from it, if nothing happened.
+/// worker learns from it.
 fn visit_and_fire<J: Run, L: Ledger, B: Boards, C: Clock, G: Gate, R: Wait>(
     rt: &R,
     alloc: Global,
@@ -214,18 +235,23 @@ fn visit_and_fire<J: Run, L: Ledger, B: Boards, C: Clock, G: Gate, R: Wait>(
     blocks: &Blocks,
     tasks: &mut Tasks,
     gate: &G,
-) -> Option<Quiet> {
+) -> Visited {
     tasks.clear();
-    let (number, end) = visit_at(rt, alloc, guarded, shared.most, tasks);
-    shared.signs.note(end);
+    let visit = visit_at(rt, alloc, guarded, shared.most, tasks);
+    shared.signs.note(visit.end);
+    let number = visit.number;
     fire_left(rt, shared, guarded, blocks, number, tasks.as_slice(), gate);
     let served = match hand {
         Some(hand) => serve_all(rt, shared, hand, blocks, gate),
         None => false,
     };
-    match end {
+    let quiet = match visit.end {
         VisitEnd::Quiet(quiet) => (!served).then_some(quiet),
         VisitEnd::On | VisitEnd::Finished | VisitEnd::Failed => None,
+    };
+    Visited {
+        reading: visit.reading,
+        quiet,
     }
 }
 
@@ -257,13 +283,14 @@ fn work<J: Run, L: Ledger, B: Boards, C: Clock, G: Gate, R: Wait>(
     let own_hands = &mut *hands;
     let mut at = first % stations.len();
     let mut calm = Calm::new(&shared.signs);
+    let mut rests = Rests::new();
     let mut tasks = Tasks::new(alloc);
     'rounds: for _ in rt.forever() {
         if shared.signs.ended() {
             break;
         }
         let hand = own_hands.as_mut_slice().get_mut(at);
-        let quiet = visit_and_fire(
+        let visited = visit_and_fire(
             rt,
             alloc,
             shared,
@@ -274,12 +301,13 @@ fn work<J: Run, L: Ledger, B: Boards, C: Clock, G: Gate, R: Wait>(
             gate,
         );
         at = next_place(at, stations.len());
-        calm = match quiet {
-            Some(quiet) => calm.and(quiet),
+        rests.visited(visited.reading);
+        calm = match visited.quiet {
+            Some(quiet) => calm.and(visited.reading, quiet),
             None => Calm::new(&shared.signs),
         };
         if calm.is_round(stations.len()) {
-            calm = shared.signs.rest(rt, calm);
+            calm = shared.signs.rest(rt, &mut rests, calm);
         }
     }
 }
