@@ -1,5 +1,5 @@
 -- Two runs of one program.
-use Rattle.std.proofs.Common.{◌≡◌, ℕ, Bool, List, Option, None, Some, Result, Ok, IfSome, refl, sym, subst, ◌∙◌}
+use Rattle.std.proofs.Common.{◌≡◌, ℕ, Bool, List, Option, None, Some, Result, Ok, refl, sym, subst, ◌∙◌}
 use Rattle.pt_types.specs.declared.graph.Graph.{Graph}
 use Rattle.pt_blocks.specs.declared.blocks.Named.{Named}
 use Rattle.pt_graph_text.specs.declared.fault.GraphFault.{GraphFault}
@@ -13,12 +13,13 @@ use Rattle.pt_words.specs.declared.orders.ClockChoice.TheVariants.{Paced}
 use Rattle.pt_run.specs.Written.{IsRun, Leaves, run_clocks}
 use Rattle.pt_run.specs.GraphFiles.{graph_by}
 use Rattle.pt_words.specs.Grammar.{GraphFile}
+use Rattle.pt_sensor_files.specs.Bytes.{OfBytes}
 
 -- a file with known content defines one graph
 same_ok : (g h : Graph) → ◌≡◌ {A = Result Graph GraphFault} (Ok g) (Ok h) → g ≡ h
 same_ok g h e = cc
 
-defined : (blocks : List Named) (graph_file : GraphFile) (reported : Option (List ℕ)) (bytes : List ℕ) (g : Graph) → reported ≡ Some bytes → IfSome reported (λ bytes. graph_by blocks graph_file bytes ≡ Ok g) → graph_by blocks graph_file bytes ≡ Ok g
+defined : (blocks : List Named) (graph_file : GraphFile) (reported : Option (List ℕ)) (bytes : List ℕ) (g : Graph) → reported ≡ Some bytes → OfBytes reported (λ bytes. graph_by blocks graph_file bytes ≡ Ok g) → graph_by blocks graph_file bytes ≡ Ok g
 defined blocks graph_file None bytes g e h = absurd (none_some bytes e)
 defined blocks graph_file (Some reported) bytes g e h = subst (λ b. graph_by blocks graph_file b ≡ Ok g) (same_some reported bytes e) h
 

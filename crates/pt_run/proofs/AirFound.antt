@@ -1,5 +1,5 @@
 -- What a replay answers over a known recording that has a fault.
-use Rattle.std.proofs.Common.{◌≡◌, ◌⊎◌, ℕ, List, Option, Some, None, Result, Ok, Err, IfSome, true, refl, sym, ap, subst, inl, inr}
+use Rattle.std.proofs.Common.{◌≡◌, ◌⊎◌, ℕ, List, Option, Some, None, Result, Ok, Err, true, refl, sym, ap, subst, inl, inr}
 use Rattle.pt_types.specs.declared.graph.Graph.{Graph}
 use Rattle.pt_blocks.specs.declared.blocks.Named.{Named}
 use Rattle.pt_io.specs.Calls.{Contents, SourceCall, SinkCall}
@@ -20,6 +20,7 @@ use Rattle.pt_run.proofs.Begun.{only_unread}
 use Rattle.pt_run.proofs.Complete.{agrees, ok_err, this_graph}
 use Rattle.pt_run.proofs.OneCause.{same_err}
 use Rattle.pt_run.specs.GraphFiles.{graph_by}
+use Rattle.pt_sensor_files.specs.Bytes.{OfBytes}
 
 -- a file that could not be read
 unread : (sensor : Option ℕ) → WantsAir (Some (fault.Read sensor))
@@ -27,14 +28,14 @@ unread None = inl (inl (inr refl))
 unread (Some actor) = inl (inr (actor, refl))
 
 module _ (order : Option Order) (left : Leaves) (contents : Contents) (blocks : List Named) (r : SourceCall) (w : SinkCall) (g : Graph) (bytes : List ℕ) (f : AirFault) (can : CanReadAir order contents blocks g bytes) (is : air_of g bytes ≡ Err f) where
-  here : (h : Graph) → IfSome (contents can.graph_file.name) (λ content. graph_by blocks can.graph_file content ≡ Ok h) → h ≡ g
+  here : (h : Graph) → OfBytes (contents can.graph_file.name) (λ content. graph_by blocks can.graph_file content ≡ Ok h) → h ≡ g
   here h file = this_graph contents blocks can.graph_file g can.begins h file
 
   -- what the recording says of the graph is that fault
-  says : (h : Graph) → h ≡ g → (d : Result Air AirFault) → IfSome (contents can.air) (λ content. air_of h content ≡ d) → Err f ≡ d
+  says : (h : Graph) → h ≡ g → (d : Result Air AirFault) → OfBytes (contents can.air) (λ content. air_of h content ≡ d) → Err f ≡ d
   says h same d file =
-      agrees (air_of g) (contents can.air) bytes (Err f) d can.reported (subst (λ reported. IfSome reported (λ content. air_of g content ≡ Err f)) (sym can.reported) is)
-      (subst (λ (z : Graph). IfSome (contents can.air) (λ content. air_of z content ≡ d)) same file)
+      agrees (air_of g) (contents can.air) bytes (Err f) d can.reported (subst (λ reported. OfBytes reported (λ content. air_of g content ≡ Err f)) (sym can.reported) is)
+      (subst (λ (z : Graph). OfBytes (contents can.air) (λ content. air_of z content ≡ d)) same file)
 
   -- so no replay ran
   never_ran : (o : Option Fault) → RunWith contents blocks can.graph_file (OnAir contents can.air (LeavesReplay can.log o left w)) → ⊥

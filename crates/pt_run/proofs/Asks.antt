@@ -1,5 +1,5 @@
 -- Which files a source was asked for.
-use Rattle.std.proofs.Common.{◌≡◌, ◌⊎◌, ℕ, zero, suc, List, [], ◌∷◌, ◌+◌, ◌++◌, Option, Some, None, Result, Ok, Err, IfSome, IfErr, take, append_assoc, refl, sym, ap, subst, ◌∙◌, inl, inr, ⊎_elim}
+use Rattle.std.proofs.Common.{◌≡◌, ◌⊎◌, ℕ, zero, suc, List, [], ◌∷◌, ◌+◌, ◌++◌, Option, Some, None, Result, Ok, Err, IfErr, take, append_assoc, refl, sym, ap, subst, ◌∙◌, inl, inr, ⊎_elim}
 use Rattle.pt_types.specs.declared.graph.Graph.{Graph}
 use Rattle.pt_types.specs.declared.graph.Actor.{Actor}
 use Rattle.pt_blocks.specs.declared.blocks.Named.{Named}
@@ -8,11 +8,11 @@ use Rattle.pt_graph_text.specs.declared.fault.GraphFault.{GraphFault}
 use Rattle.pt_graph_text.specs.declared.fault.GraphFault.TheVariants as graph
 use Rattle.pt_causality.specs.declared.cycle.CycleFault.{CycleFault}
 use Rattle.pt_causality.specs.declared.cycle.CycleFault.TheVariants as cycle
-use Rattle.pt_sensors.specs.declared.recorded_fault.RecordedFault.{RecordedFault}
-use Rattle.pt_sensors.specs.declared.recorded_fault.RecordedFault.TheVariants as rows
-use Rattle.pt_sensors.specs.Asked.{Asks, AsksUpTo, file_of, files_before, sensor_files}
+use Rattle.pt_sensor_files.specs.declared.recorded_fault.RecordedFault.{RecordedFault}
+use Rattle.pt_sensor_files.specs.declared.recorded_fault.RecordedFault.TheVariants as rows
+use Rattle.pt_sensor_files.specs.Asked.{Asks, AsksUpTo, file_of, files_before, sensor_files}
 use Rattle.pt_io.specs.Calls.{Contents, SourceCall, SinkCall}
-use Rattle.pt_sensors.proofs.Asking.{append_none, asks_more, asks_none}
+use Rattle.pt_sensor_files.proofs.Asking.{append_none, asks_more, asks_none}
 use Rattle.pt_turn.specs.declared.fault.TurnFault.{TurnFault}
 use Rattle.pt_turn.specs.declared.fault.TurnFault.TheVariants as turn
 use Rattle.pt_turn.specs.Platforms.{PlatformView}
@@ -34,6 +34,7 @@ use Rattle.pt_words.specs.Grammar.{GraphFile, Order, audit, make, migrate, over,
 use Rattle.pt_run.specs.Written.{leaves_nothing}
 use Rattle.pt_run.proofs.Planned.{by_refusal}
 use Rattle.pt_run.specs.GraphFiles.{graph_by}
+use Rattle.pt_sensor_files.specs.Bytes.{OfBytes}
 
 -- The first of some names.
 
@@ -211,11 +212,11 @@ ended_asks (Err s) o w actors last before now ends h =
 
 module _ (contents : Contents) (blocks : List Named) (graph_file : GraphFile) (actors : Graph → List Actor) (last : List (List ℕ)) (first now : Option (List (List ℕ))) where
   -- it defines this graph
-  pub asks_on : (g : Graph) (outcome : Option Fault) (asked : Option (List (List ℕ))) → IfSome (contents graph_file.name) (λ bytes. graph_by blocks graph_file bytes ≡ Ok g) → Asks first asked (graph_file.name ∷ []) → AsksOver outcome [] (actors g) last asked now → AsksFrom outcome contents blocks graph_file actors last first now
+  pub asks_on : (g : Graph) (outcome : Option Fault) (asked : Option (List (List ℕ))) → OfBytes (contents graph_file.name) (λ bytes. graph_by blocks graph_file bytes ≡ Ok g) → Asks first asked (graph_file.name ∷ []) → AsksOver outcome [] (actors g) last asked now → AsksFrom outcome contents blocks graph_file actors last first now
   asks_on g outcome asked read asks (files, are, more) = inr (g, read, (files, are, asks_more first asked now (graph_file.name ∷ []) files asks more))
 
   -- and no other file is to be asked for
-  pub asks_only : (g : Graph) (outcome : Option Fault) → IfSome (contents graph_file.name) (λ bytes. graph_by blocks graph_file bytes ≡ Ok g) → Asks first now (graph_file.name ∷ []) → AsksFrom outcome contents blocks graph_file (λ g. []) [] first now
+  pub asks_only : (g : Graph) (outcome : Option Fault) → OfBytes (contents graph_file.name) (λ bytes. graph_by blocks graph_file bytes ≡ Ok g) → Asks first now (graph_file.name ∷ []) → AsksFrom outcome contents blocks graph_file (λ g. []) [] first now
   asks_only g outcome read asks = inr (g, read, ([], none_to_ask outcome, subst (Asks first now) (sym (append_none (graph_file.name ∷ []))) asks))
 
   -- it gave no graph

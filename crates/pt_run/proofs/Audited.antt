@@ -1,5 +1,5 @@
 -- What an audit answers over known files.
-use Rattle.std.proofs.Common.{◌≡◌, ◌⊎◌, ℕ, List, Option, Some, None, Result, Ok, Err, IfSome, refl, sym, ap, subst, ◌∙◌, inl, inr}
+use Rattle.std.proofs.Common.{◌≡◌, ◌⊎◌, ℕ, List, Option, Some, None, Result, Ok, Err, refl, sym, ap, subst, ◌∙◌, inl, inr}
 use Rattle.pt_types.specs.declared.graph.Graph.{Graph}
 use Rattle.pt_types.specs.declared.rows.Row.{Row}
 use Rattle.pt_blocks.specs.declared.blocks.Named.{Named}
@@ -7,10 +7,10 @@ use Rattle.pt_graph_text.specs.declared.fault.GraphFault.{GraphFault}
 use Rattle.pt_offsets.specs.Plans.{Parts}
 use Rattle.pt_offsets.specs.Margins.{IsFirstInfeasible}
 use Rattle.pt_semantics.specs.Cycles.{NoFreeCycle}
-use Rattle.pt_sensors.specs.declared.recorded_fault.LateRows.TheVariants.{Refused}
+use Rattle.pt_sensor_files.specs.declared.recorded_fault.LateRows.TheVariants.{Refused}
 use Rattle.pt_io.specs.Calls.{Contents, SourceCall, SinkCall}
 use Rattle.pt_sensors.specs.Places.{of_run}
-use Rattle.pt_sensors.specs.Recorded.{SensorFails, SensorLate}
+use Rattle.pt_sensor_files.specs.Recorded.{SensorFails, SensorLate}
 use Rattle.pt_audit.specs.LawfulLogs.{IsLawfulLog}
 use Rattle.pt_audit.specs.declared.verdict.Verdict.{Verdict}
 use Rattle.pt_run.specs.declared.fault.Fault.{Fault}
@@ -28,6 +28,7 @@ use Rattle.pt_run.proofs.OneCause.{fails_all, late_all}
 use Rattle.pt_run.proofs.OnePlan.{same_accepted, same_unlawful}
 use Rattle.pt_run.proofs.RunsAgreeing.{same_rows}
 use Rattle.pt_run.specs.GraphFiles.{graph_by}
+use Rattle.pt_sensor_files.specs.Bytes.{OfBytes}
 
 -- all was written, or a write failed
 abbrev pub IsPut : Option Fault → Type 0
@@ -40,17 +41,17 @@ pub data Audited (plan : Parts) (rows : ℕ → List Row) (bytes : List ℕ) (ou
   refused : (v : Verdict) → outcome ≡ Some (fault.Unlawful v) → IsUnlawful plan rows bytes v → Audited plan rows bytes outcome
 
 -- a fact of a content that is known
-of_content : (content : Option (List ℕ)) (bytes : List ℕ) (Fact : List ℕ → Type 0) → content ≡ Some bytes → IfSome content Fact → Fact bytes
-of_content content bytes Fact is h = subst (λ c. IfSome c Fact) is h
+of_content : (content : Option (List ℕ)) (bytes : List ℕ) (Fact : List ℕ → Type 0) → content ≡ Some bytes → OfBytes content Fact → Fact bytes
+of_content content bytes Fact is h = subst (λ c. OfBytes c Fact) is h
 
 module _ (order : Option Order) (left : Leaves) (contents : Contents) (blocks : List Named) (r : SourceCall) (w : SinkCall) (plan : Parts) (rows : ℕ → List Row) (bytes : List ℕ) (can : CanAudit order contents blocks plan rows bytes) where
   abbrev begins : CanBegin contents blocks can.graph_file plan.graph
   begins = can.begins
 
-  file : (d : Result Graph GraphFault) → IfSome (contents can.graph_file.name) (λ bytes. graph_by blocks can.graph_file bytes ≡ d) → Ok plan.graph ≡ d
-  file d other = agrees (graph_by blocks can.graph_file) (contents can.graph_file.name) begins.bytes (Ok plan.graph) d begins.reported (subst (λ z. IfSome z (λ bytes. graph_by blocks can.graph_file bytes ≡ Ok plan.graph)) (sym begins.reported) begins.graph) other
+  file : (d : Result Graph GraphFault) → OfBytes (contents can.graph_file.name) (λ bytes. graph_by blocks can.graph_file bytes ≡ d) → Ok plan.graph ≡ d
+  file d other = agrees (graph_by blocks can.graph_file) (contents can.graph_file.name) begins.bytes (Ok plan.graph) d begins.reported (subst (λ z. OfBytes z (λ bytes. graph_by blocks can.graph_file bytes ≡ Ok plan.graph)) (sym begins.reported) begins.graph) other
 
-  this_graph : (g : Graph) → IfSome (contents can.graph_file.name) (λ bytes. graph_by blocks can.graph_file bytes ≡ Ok g) → plan.graph ≡ g
+  this_graph : (g : Graph) → OfBytes (contents can.graph_file.name) (λ bytes. graph_by blocks can.graph_file bytes ≡ Ok g) → plan.graph ≡ g
   this_graph g other = same_ok {E = GraphFault} plan.graph g (file (Ok g) other)
 
   module _ (Fact : Parts → (ℕ → List Row) → List ℕ → Type 0) (h : RunWith contents blocks can.graph_file (OnLog contents can.log Fact)) where

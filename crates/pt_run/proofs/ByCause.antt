@@ -15,7 +15,7 @@ use Rattle.pt_semantics.specs.Offsets.{IsFeasible}
 use Rattle.pt_offsets.specs.Plans.{IsAdmitted, Parts}
 use Rattle.pt_io.specs.Calls.{Contents}
 use Rattle.pt_sensors.specs.Places.{of_run}
-use Rattle.pt_sensors.specs.Recorded.{AreRows, SensorFails, SensorLate}
+use Rattle.pt_sensor_files.specs.Recorded.{AreRows, SensorFails, SensorLate}
 use Rattle.pt_slacks.specs.Rings.{IsRing}
 use Rattle.pt_slacks.specs.Slacks.{Admits}
 use Rattle.pt_run.specs.RunsAgreeing.{ReportsSensors}

@@ -1,5 +1,5 @@
 -- How a call ends, by its fault: what the stages of `IsDue` come to for each fault (`DueEnds`).
-use Rattle.std.specs.Prelude.{◌≡◌, ℕ, Bool, true, false, List, [], ◌∷◌, Option, Some, None, Err, IfSome}
+use Rattle.std.specs.Prelude.{◌≡◌, ℕ, Bool, true, false, List, [], ◌∷◌, Option, Some, None, Err}
 use Rattle.pt_io.specs.Causes.{Appends, AppendsPart, Rose}
 use Rattle.pt_types.specs.declared.graph.Graph.{Graph}
 use Rattle.pt_types.specs.declared.rows.Row.{Row}
@@ -12,10 +12,10 @@ use Rattle.pt_offsets.specs.Margins.{IsFirstInfeasible}
 use Rattle.pt_offsets.specs.Plans.{Parts}
 use Rattle.pt_slacks.specs.Rings.{IsRing}
 use Rattle.pt_slacks.specs.Text.{IsSlacked}
-use Rattle.pt_sensors.specs.declared.recorded_fault.LateRows.TheVariants.{Refused, Taken}
-use Rattle.pt_sensors.specs.Asked.{ReadFails}
+use Rattle.pt_sensor_files.specs.declared.recorded_fault.LateRows.TheVariants.{Refused, Taken}
+use Rattle.pt_sensor_files.specs.Asked.{ReadFails}
 use Rattle.pt_io.specs.Calls.{Contents, SourceCall, SinkCall}
-use Rattle.pt_sensors.specs.Recorded.{AreRows, SensorFails, SensorLate, SensorUnread}
+use Rattle.pt_sensor_files.specs.Recorded.{AreRows, SensorFails, SensorLate, SensorUnread}
 use Rattle.pt_turn.specs.declared.fault.TurnFault.{TurnFault}
 use Rattle.pt_turn.specs.declared.fault.TurnFault.TheVariants as turn
 use Rattle.pt_words.specs.declared.orders.ClockChoice.{ClockChoice}
@@ -35,6 +35,7 @@ use Rattle.pt_words.specs.Grammar.{GraphFile, Order, over, make, migrate, audit,
 use Rattle.pt_run.specs.Reporting.{paced_run}
 use Rattle.pt_run.specs.Written.{FitOnAll, GraphWith, HasNothing, IsChecked, IsRun, IsTables, Leaves, run_clocks}
 use Rattle.pt_run.specs.GraphFiles.{graph_by}
+use Rattle.pt_sensor_files.specs.Bytes.{OfBytes}
 
 -- the meaning of the graph and its sensors' rows is too long
 pub record MeansLong (contents : Contents) (g : Graph) : Type 0 where
@@ -126,7 +127,7 @@ CauseOf command f left contents g others r = NoFreeCycle g × CauseOfText comman
 
 -- why the graph file with this name gave no graph
 abbrev pub CauseOfGraph : Fault → Contents → List Named → GraphFile → SourceCall → Type 0
-CauseOfGraph (fault.Graph f) contents blocks graph_file r = IfSome (contents graph_file.name) (λ bytes. graph_by blocks graph_file bytes ≡ Err f)
+CauseOfGraph (fault.Graph f) contents blocks graph_file r = OfBytes (contents graph_file.name) (λ bytes. graph_by blocks graph_file bytes ≡ Err f)
 CauseOfGraph (fault.Read None) contents blocks graph_file r = ReadFails [] graph_file.name r
 CauseOfGraph fault.Memory contents blocks graph_file r = Unit {0}
 CauseOfGraph _ contents blocks graph_file r = ⊥
@@ -192,7 +193,7 @@ EndsInAir With Other others None left air log contents r w = With (OnAir content
 EndsInAir With Other others (Some fault.Write) left air log contents r w = Rose w.before w.now × With (OnAir contents air (LeavesReplay log (Some fault.Write) left w))
 EndsInAir With Other others (Some (fault.Long (Some platform))) left air log contents r w = With (OnAir contents air (LeavesReplay log (Some (fault.Long (Some platform))) left w))
 EndsInAir With Other others (Some (fault.LateAir platform actor tag reading limit row)) left air log contents r w = With (OnAir contents air (LeavesReplay log (Some (fault.LateAir platform actor tag reading limit row)) left w))
-EndsInAir With Other others (Some (fault.Air f)) left air log contents r w = HasNothing left × With (λ plan rows. IfSome (contents air) (λ bytes. air_of plan.graph bytes ≡ Err f)) × (w.written_now ≡ w.written_before)
+EndsInAir With Other others (Some (fault.Air f)) left air log contents r w = HasNothing left × With (λ plan rows. OfBytes (contents air) (λ bytes. air_of plan.graph bytes ≡ Err f)) × (w.written_now ≡ w.written_before)
 EndsInAir With Other others (Some fault.ReadAir) left air log contents r w = HasNothing left × With (λ plan rows. LastFails plan.graph others air r) × (w.written_now ≡ w.written_before)
 EndsInAir With Other others (Some fault.Memory) left air log contents r w = HasNothing left × (w.written_now ≡ w.written_before)
 EndsInAir With Other others (Some f) left air log contents r w = (is_before_last f ≡ true) × HasNothing left × Other f

@@ -1,5 +1,5 @@
 -- Two calls of `run` over the same files.
-use Rattle.std.proofs.Common.{◌≡◌, ℕ, ◌⊎◌, Bool, true, false, List, [], Option, None, Some, Result, Ok, Err, IfSome, refl, sym, ap, ap₂, subst, ◌∙◌, inl, inr, ⊎_elim, append-nil}
+use Rattle.std.proofs.Common.{◌≡◌, ℕ, ◌⊎◌, Bool, true, false, List, [], Option, None, Some, Result, Ok, Err, refl, sym, ap, ap₂, subst, ◌∙◌, inl, inr, ⊎_elim, append-nil}
 use Rattle.std.proofs.lemmas.Bool.{false≢true}
 use Rattle.pt_io.specs.Causes.{Appends}
 use Rattle.pt_types.specs.declared.graph.Graph.{Graph}
@@ -34,9 +34,10 @@ use Rattle.pt_run.proofs.Exact.{exact}
 use Rattle.pt_run.proofs.RunsAgreeing.{runs_agree, texts_agree}
 use Rattle.pt_run.proofs.StepsAgreeing.{step_runs}
 use Rattle.pt_run.specs.GraphFiles.{graph_by}
+use Rattle.pt_sensor_files.specs.Bytes.{OfBytes}
 
 -- a file with known content
-pub of_bytes : (reported : Option (List ℕ)) (bytes : List ℕ) (Fact : List ℕ → Type 0) → reported ≡ Some bytes → IfSome reported Fact → Fact bytes
+pub of_bytes : (reported : Option (List ℕ)) (bytes : List ℕ) (Fact : List ℕ → Type 0) → reported ≡ Some bytes → OfBytes reported Fact → Fact bytes
 of_bytes None bytes Fact e h = absurd (none_some bytes e)
 of_bytes (Some b) bytes Fact e h = subst Fact (same_some b bytes e) h
 
@@ -93,10 +94,10 @@ module _ (clock : ClockChoice) (log : Bool) (contents : Contents) (blocks : List
     decides : Decides answer
 
   -- of such causes
-  defines : (workers : ℕ) (defined : Result Graph GraphFault) → IfSome (contents graph_file.name) (λ bytes. graph_by blocks graph_file bytes ≡ defined) → Defines (Some (over (Run workers clock log) graph_file)) contents blocks (over (Run workers clock log)) defined
+  defines : (workers : ℕ) (defined : Result Graph GraphFault) → OfBytes (contents graph_file.name) (λ bytes. graph_by blocks graph_file bytes ≡ defined) → Defines (Some (over (Run workers clock log) graph_file)) contents blocks (over (Run workers clock log)) defined
   defines workers defined file = record { graph_file = graph_file; words = refl; bytes = all.bytes; reported = all.reported; defines = of_bytes (contents graph_file.name) all.bytes (λ bytes. graph_by blocks graph_file bytes ≡ defined) all.reported file }
 
-  reads : (workers : ℕ) (g : Graph) → IfSome (contents graph_file.name) (λ bytes. graph_by blocks graph_file bytes ≡ Ok g) → NoFreeCycle g → IsFeasible g → ReadsRows (Some (over (Run workers clock log) graph_file)) contents blocks (Run workers clock log) g
+  reads : (workers : ℕ) (g : Graph) → OfBytes (contents graph_file.name) (λ bytes. graph_by blocks graph_file bytes ≡ Ok g) → NoFreeCycle g → IsFeasible g → ReadsRows (Some (over (Run workers clock log) graph_file)) contents blocks (Run workers clock log) g
   reads workers g file free feasible = record {
     graph = defines workers (Ok g) file;
     no_free_cycle = free;
@@ -110,13 +111,13 @@ module _ (clock : ClockChoice) (log : Bool) (contents : Contents) (blocks : List
 
   module _ (workers : ℕ) (left : Leaves) (r : SourceCall) (w : SinkCall) where
     -- a platform stopped the run
-    halted : (o : Option Fault) (g : Graph) → o ≡ answer_of (stop_of o) → has_run o ≡ true → (o ≡ None → ⊥) → IfSome (contents graph_file.name) (λ bytes. graph_by blocks graph_file bytes ≡ Ok g) → (plan : Parts) → plan.graph ≡ g → IsOutcomeOver contents (run_clocks workers clock left) plan left.platforms (stop_of o) →
+    halted : (o : Option Fault) (g : Graph) → o ≡ answer_of (stop_of o) → has_run o ≡ true → (o ≡ None → ⊥) → OfBytes (contents graph_file.name) (λ bytes. graph_by blocks graph_file bytes ≡ Ok g) → (plan : Parts) → plan.graph ≡ g → IsOutcomeOver contents (run_clocks workers clock left) plan left.platforms (stop_of o) →
         left.misses ≡ [] → w.written_now ≡ w.written_before → Runs workers o left w
     halted o g is ran some file plan graph run none same = record {
       ran = ran;
       is = is;
       plan = plan;
-      file = of_bytes (contents graph_file.name) all.bytes (λ bytes. graph_by blocks graph_file bytes ≡ Ok plan.graph) all.reported (subst (λ (h : Graph). IfSome (contents graph_file.name) (λ bytes. graph_by blocks graph_file bytes ≡ Ok h)) (sym graph) file);
+      file = of_bytes (contents graph_file.name) all.bytes (λ bytes. graph_by blocks graph_file bytes ≡ Ok plan.graph) all.reported (subst (λ (h : Graph). OfBytes (contents graph_file.name) (λ bytes. graph_by blocks graph_file bytes ≡ Ok h)) (sym graph) file);
       run = run;
       text = [];
       wrote = nothing_more w.written_before w.written_now same;
@@ -133,7 +134,7 @@ module _ (clock : ClockChoice) (log : Bool) (contents : Contents) (blocks : List
       ran = refl;
       is = refl;
       plan = run.plan;
-      file = of_bytes (contents graph_file.name) all.bytes (λ bytes. graph_by blocks graph_file bytes ≡ Ok run.plan.graph) all.reported (subst (λ (h : Graph). IfSome (contents graph_file.name) (λ bytes. graph_by blocks graph_file bytes ≡ Ok h)) (sym run.graph) file);
+      file = of_bytes (contents graph_file.name) all.bytes (λ bytes. graph_by blocks graph_file bytes ≡ Ok run.plan.graph) all.reported (subst (λ (h : Graph). OfBytes (contents graph_file.name) (λ bytes. graph_by blocks graph_file bytes ≡ Ok h)) (sym run.graph) file);
       run = run.finished.run;
       text = text;
       wrote = appends;

@@ -1,6 +1,6 @@
 -- The table of causes: for each answer, why it came. The order matters: of a graph, an answer further down has none of the
 -- causes before it.
-use Rattle.std.specs.Prelude.{◌≡◌, ◌≢◌, ◌↔◌, ℕ, ℤ, List, [], ◌∷◌, Option, Some, None, Err, IfSome, flat_map}
+use Rattle.std.specs.Prelude.{◌≡◌, ◌≢◌, ◌↔◌, ℕ, ℤ, List, [], ◌∷◌, Option, Some, None, Err, flat_map}
 use Rattle.pt_io.specs.Causes.{Rose}
 use Rattle.pt_types.specs.declared.graph.Graph.{Graph}
 use Rattle.pt_audit.specs.declared.verdict.Verdict.{Verdict}
@@ -13,11 +13,11 @@ use Rattle.pt_semantics.specs.Cycles.{NoFreeCycle}
 use Rattle.pt_semantics.specs.Offsets.{IsFeasible}
 use Rattle.pt_monitors.specs.Platforms.{missed_by}
 use Rattle.pt_slacks.specs.Rings.{IsRing}
-use Rattle.pt_sensors.specs.declared.recorded_fault.LateRows.{LateRows}
-use Rattle.pt_sensors.specs.declared.recorded_fault.LateRows.TheVariants.{Refused, Taken}
-use Rattle.pt_sensors.specs.Asked.{ReadFails}
+use Rattle.pt_sensor_files.specs.declared.recorded_fault.LateRows.{LateRows}
+use Rattle.pt_sensor_files.specs.declared.recorded_fault.LateRows.TheVariants.{Refused, Taken}
+use Rattle.pt_sensor_files.specs.Asked.{ReadFails}
 use Rattle.pt_io.specs.Calls.{Contents, SourceCall, SinkCall}
-use Rattle.pt_sensors.specs.Recorded.{SensorFails, SensorLate, SensorUnread}
+use Rattle.pt_sensor_files.specs.Recorded.{SensorFails, SensorLate, SensorUnread}
 use Rattle.pt_tags.specs.declared.tag.Tag.{Tag}
 use Rattle.pt_turn.specs.Platforms.{state_at}
 use Rattle.pt_turn.specs.Running.{ShowsLate, ShowsLong}
@@ -37,6 +37,7 @@ use Rattle.pt_run.specs.Complete.{OnPlatform}
 use Rattle.pt_run.specs.Written.{GraphWith, Leaves}
 use Rattle.pt_run.proofs.ByFault.{MeansLong}
 use Rattle.pt_run.specs.GraphFiles.{graph_by}
+use Rattle.pt_sensor_files.specs.Bytes.{OfBytes}
 
 -- the words are a command on a graph file, `migrate`, `audit` and `replay` included, and a fact holds of the file's name
 abbrev pub OverFile : Option Order → (GraphFile → Type 0) → Type 0
@@ -101,7 +102,7 @@ pub record CauseTable (status : ℕ) (outcome : Option Fault) (left : Leaves) (o
   pub usage : outcome ≡ Some fault.Usage → order ≡ None
   -- the graph file could not be read, its text has that fault, or those actors are a cycle that takes no time
   pub graph_unread : outcome ≡ Some (fault.Read None) → OverFile order (λ graph_file. ReadFails [] graph_file.name r)
-  pub graph : (f : GraphFault) → outcome ≡ Some (fault.Graph f) → OverFile order (λ graph_file. IfSome (contents graph_file.name) (λ bytes. graph_by blocks graph_file bytes ≡ Err f))
+  pub graph : (f : GraphFault) → outcome ≡ Some (fault.Graph f) → OverFile order (λ graph_file. OfBytes (contents graph_file.name) (λ bytes. graph_by blocks graph_file bytes ≡ Err f))
   pub cycle : (actors : List ℕ) → outcome ≡ Some (fault.Cycle actors) → OverGraph order contents blocks (λ command graph_file g. IsFreeCycle g actors)
   -- that sender is the first that can't send in time, and the command refuses it
   pub infeasible : (send : ℕ) (offset : ℤ) (slack : ℕ) → outcome ≡ Some (fault.Infeasible send offset slack) → OverGraph order contents blocks (λ command graph_file g. AsksFeasible command × NoFreeCycle g × IsFirstInfeasible g send offset slack)
@@ -125,7 +126,7 @@ pub record CauseTable (status : ℕ) (outcome : Option Fault) (left : Leaves) (o
   -- the recording could not be read, or its text has that fault; or the recorded turns of that platform end with that late message,
   -- and that row of the recording is the first that breaks a stated bound
   pub air_unread : outcome ≡ Some fault.ReadAir → OverAir order (λ graph_file air. RunWith contents blocks graph_file (λ plan rows. LastFails plan.graph (graph_file.name ∷ []) air r))
-  pub air : (f : AirFault) → outcome ≡ Some (fault.Air f) → OverAir order (λ graph_file air. RunWith contents blocks graph_file (λ plan rows. IfSome (contents air) (λ bytes. air_of plan.graph bytes ≡ Err f)))
+  pub air : (f : AirFault) → outcome ≡ Some (fault.Air f) → OverAir order (λ graph_file air. RunWith contents blocks graph_file (λ plan rows. OfBytes (contents air) (λ bytes. air_of plan.graph bytes ≡ Err f)))
   pub late_air : (platform actor : ℕ) (tag : Tag) (reading limit row : ℕ) → outcome ≡ Some (fault.LateAir platform actor tag reading limit row) →
       OverAir order (λ graph_file air. RunWith contents blocks graph_file (OnAir contents air (λ plan rows recorded. (recorded.breach ≡ Some row) × OnPlatform left plan.graph platform (λ v. ShowsLate plan.graph v.turns actor tag reading limit))))
   -- the sink's count of faults rose; with any other fault nothing is written

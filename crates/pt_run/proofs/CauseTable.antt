@@ -1,5 +1,5 @@
 -- Each answer has its cause.
-use Rattle.std.proofs.Common.{◌≡◌, ◌≢◌, ℕ, List, [], ◌∷◌, Option, Some, None, Err, IfSome, ℤ, refl, sym, ap, subst, ◌∙◌, arith}
+use Rattle.std.proofs.Common.{◌≡◌, ◌≢◌, ℕ, List, [], ◌∷◌, Option, Some, None, Err, ℤ, refl, sym, ap, subst, ◌∙◌, arith}
 use Rattle.std.specs.Prelude.{flat_map}
 use Rattle.pt_io.specs.Causes.{Rose}
 use Rattle.pt_audit.specs.declared.verdict.Verdict.{Verdict}
@@ -17,10 +17,10 @@ use Rattle.pt_semantics.specs.Cycles.{NoFreeCycle}
 use Rattle.pt_slacks.specs.Rings.{IsRing}
 use Rattle.pt_semantics.specs.Offsets.{IsFeasible}
 use Rattle.pt_monitors.specs.Platforms.{missed_by}
-use Rattle.pt_sensors.specs.Asked.{ReadFails}
+use Rattle.pt_sensor_files.specs.Asked.{ReadFails}
 use Rattle.pt_io.specs.Calls.{Contents, SourceCall, SinkCall}
 use Rattle.pt_sensors.specs.Places.{of_run}
-use Rattle.pt_sensors.specs.Recorded.{SensorFails, SensorLate, SensorUnread}
+use Rattle.pt_sensor_files.specs.Recorded.{SensorFails, SensorLate, SensorUnread}
 use Rattle.pt_run.specs.declared.fault.Fault.{Fault}
 use Rattle.pt_run.specs.declared.fault.Fault.TheVariants as fault
 use Rattle.pt_words.specs.declared.orders.Command.{Command}
@@ -46,6 +46,7 @@ use Rattle.pt_run.proofs.ByFault.{CauseOfText, Ends, IsCause, RunStops, WritesTe
 use Rattle.pt_run.proofs.Stages.{not_true}
 use Rattle.pt_run.proofs.Replayed.{stopped_in_air, unwritten_in_air}
 use Rattle.pt_run.specs.GraphFiles.{graph_by}
+use Rattle.pt_sensor_files.specs.Bytes.{OfBytes}
 
 -- the status of a fault is not 5
 not_missed : (f : Fault) → status_of_fault f ≡ 5 → ⊥
@@ -93,7 +94,7 @@ module _ (left : Leaves) (contents : Contents) (blocks : List Named) (r : Source
   graph_unread (Some (audit graph_file log)) k = k.2.0
   graph_unread (Some (replay graph_file air workers log)) k = k.2.0
 
-  graph : (f : GraphFault) (order : Option Order) → Ends (Some (fault.Graph f)) left order contents blocks r w → OverFile order (λ graph_file. IfSome (contents graph_file.name) (λ bytes. graph_by blocks graph_file bytes ≡ Err f))
+  graph : (f : GraphFault) (order : Option Order) → Ends (Some (fault.Graph f)) left order contents blocks r w → OverFile order (λ graph_file. OfBytes (contents graph_file.name) (λ bytes. graph_by blocks graph_file bytes ≡ Err f))
   graph f None k = absurd (let e = k.0 in cc)
   graph f (Some (over command graph_file)) k = k.0
   graph f (Some (make n workers)) k = absurd k
@@ -298,7 +299,7 @@ module _ (left : Leaves) (contents : Contents) (blocks : List Named) (r : Source
   air_unread (Some (audit graph_file log)) k = absurd (not_true k.0)
   air_unread (Some (replay graph_file air workers log)) k = k.1
 
-  air_fails : (f : AirFault) (order : Option Order) → Ends (Some (fault.Air f)) left order contents blocks r w → OverAir order (λ graph_file air. RunWith contents blocks graph_file (λ plan rows. IfSome (contents air) (λ bytes. air_of plan.graph bytes ≡ Err f)))
+  air_fails : (f : AirFault) (order : Option Order) → Ends (Some (fault.Air f)) left order contents blocks r w → OverAir order (λ graph_file air. RunWith contents blocks graph_file (λ plan rows. OfBytes (contents air) (λ bytes. air_of plan.graph bytes ≡ Err f)))
   air_fails f None k = absurd (let e = k.0 in cc)
   air_fails f (Some (over command graph_file)) (k, same) = of command k.0 k.2.1
     where

@@ -1,5 +1,5 @@
 -- A run of a program that can run ends as its meaning says.
-use Rattle.std.proofs.Common.{◌≡◌, ℕ, ◌+◌, ◌<◌, ◌≤◌, Bool, List, [], ◌∷◌, Option, Some, None, Result, Ok, Err, IfSome, ℤ, pos, ◌+ℤ◌, ◌-ℤ◌, ◌<ℤ◌, length, refl, sym, ap, subst, ◌∙◌, arith, inl, inr}
+use Rattle.std.proofs.Common.{◌≡◌, ℕ, ◌+◌, ◌<◌, ◌≤◌, Bool, List, [], ◌∷◌, Option, Some, None, Result, Ok, Err, ℤ, pos, ◌+ℤ◌, ◌-ℤ◌, ◌<ℤ◌, length, refl, sym, ap, subst, ◌∙◌, arith, inl, inr}
 use Rattle.std.specs.Prelude.{◌↔◌}
 use Rattle.std.proofs.lemmas.Int.{ints}
 use Rattle.std.proofs.lemmas.Option.{slice_get_within}
@@ -30,10 +30,10 @@ use Rattle.pt_offsets.specs.Margins.{IsFirstInfeasible}
 use Rattle.pt_offsets.specs.Plans.{IsAdmitted, Parts}
 use Rattle.pt_turn.specs.Platforms.{PlatformView}
 use Rattle.pt_rounds.specs.Outcome.{IsOutcome as IsPacedOutcome, IsLongOn}
-use Rattle.pt_sensors.specs.declared.recorded_fault.LateRows.TheVariants.{Refused}
+use Rattle.pt_sensor_files.specs.declared.recorded_fault.LateRows.TheVariants.{Refused}
 use Rattle.pt_io.specs.Calls.{Contents, SourceCall, SinkCall}
 use Rattle.pt_sensors.specs.Places.{of_run}
-use Rattle.pt_sensors.specs.Recorded.{AreRows, InTime, RowsOfKind, SensorFails, SensorLate}
+use Rattle.pt_sensor_files.specs.Recorded.{AreRows, InTime, RowsOfKind, SensorFails, SensorLate}
 use Rattle.pt_run.proofs.ByFault.{CauseOf, Ends, EndsBy, RunStops}
 use Rattle.pt_run.proofs.RunsAgreeing.{rows_are_one}
 use Rattle.pt_run.specs.Runs.{IsFinishedRun}
@@ -53,9 +53,10 @@ use Rattle.pt_run.specs.Statuses.{status_of}
 use Rattle.pt_words.specs.Grammar.{GraphFile, Order}
 use Rattle.pt_run.specs.GraphFiles.{graph_by}
 use Rattle.pt_sensors.specs.Limits.{file_limits}
+use Rattle.pt_sensor_files.specs.Bytes.{OfBytes}
 
 -- what a file with known content defines is one
-pub agrees : {R : Type 0} (read : List ℕ → R) (reported : Option (List ℕ)) (bytes : List ℕ) (o p : R) → reported ≡ Some bytes → IfSome reported (λ bytes. read bytes ≡ o) → IfSome reported (λ bytes. read bytes ≡ p) → o ≡ p
+pub agrees : {R : Type 0} (read : List ℕ → R) (reported : Option (List ℕ)) (bytes : List ℕ) (o p : R) → reported ≡ Some bytes → OfBytes reported (λ bytes. read bytes ≡ o) → OfBytes reported (λ bytes. read bytes ≡ p) → o ≡ p
 agrees read None bytes o p e h k = absurd (none_some bytes e)
 agrees read (Some b) bytes o p e h k = sym h ∙ k
 
@@ -87,18 +88,18 @@ by_platform status g xs platform is within over = inr (inr (inl (is, λ few. cla
     clash n over le = omega arith
 
 module _ (contents : Contents) (blocks : List Named) (graph_file : GraphFile) (g : Graph) (can : CanBegin contents blocks graph_file g) where
-  read : IfSome (contents graph_file.name) (λ bytes. graph_by blocks graph_file bytes ≡ Ok g)
-  read = subst (λ reported. IfSome reported (λ bytes. graph_by blocks graph_file bytes ≡ Ok g)) (sym can.reported) can.graph
+  read : OfBytes (contents graph_file.name) (λ bytes. graph_by blocks graph_file bytes ≡ Ok g)
+  read = subst (λ reported. OfBytes reported (λ bytes. graph_by blocks graph_file bytes ≡ Ok g)) (sym can.reported) can.graph
 
   -- a graph that the file defines is this one, and it has no fault
-  pub this_graph : (h : Graph) → IfSome (contents graph_file.name) (λ bytes. graph_by blocks graph_file bytes ≡ Ok h) → h ≡ g
+  pub this_graph : (h : Graph) → OfBytes (contents graph_file.name) (λ bytes. graph_by blocks graph_file bytes ≡ Ok h) → h ≡ g
   this_graph h other = sym (same_ok {E = GraphFault} g h (agrees (graph_by blocks graph_file) (contents graph_file.name) can.bytes (Ok g) (Ok h) can.reported read other))
 
-  pub no_fault : (f : GraphFault) → IfSome (contents graph_file.name) (λ bytes. graph_by blocks graph_file bytes ≡ Err f) → ⊥
+  pub no_fault : (f : GraphFault) → OfBytes (contents graph_file.name) (λ bytes. graph_by blocks graph_file bytes ≡ Err f) → ⊥
   no_fault f other = ok_err g f (agrees (graph_by blocks graph_file) (contents graph_file.name) can.bytes (Ok g) (Err f) can.reported read other)
 
   -- no sensor's file has a fault, and no row is late
-  of_sensor : (a : ℕ) (file : List ℕ) (bound : ℕ) → kind_of g a ≡ Sensor file bound → IfSome (contents file) (λ bytes. rows_of (file_limits g.claims) bytes ≡ Ok (can.rows a))
+  of_sensor : (a : ℕ) (file : List ℕ) (bound : ℕ) → kind_of g a ≡ Sensor file bound → OfBytes (contents file) (λ bytes. rows_of (file_limits g.claims) bytes ≡ Ok (can.rows a))
   of_sensor a file bound kind = subst (λ (k : Kind). RowsOfKind (file_limits g.claims) contents k (can.rows a)) kind (can.sensors a)
 
   pub sensor_fails : (actor : ℕ) (f : RowFault) → SensorFails Refused contents g actor f → ⊥

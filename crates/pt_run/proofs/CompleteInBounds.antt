@@ -1,5 +1,5 @@
 -- A replay within the stated bounds, of a program that can run, ends as its meaning says.
-use Rattle.std.proofs.Common.{◌≡◌, ℕ, ◌<◌, Bool, true, List, ◌++◌, Option, Some, None, Result, Ok, Err, IfSome, length, refl, sym, ap, subst, ◌∙◌, inr}
+use Rattle.std.proofs.Common.{◌≡◌, ℕ, ◌<◌, Bool, true, List, ◌++◌, Option, Some, None, Result, Ok, Err, length, refl, sym, ap, subst, ◌∙◌, inr}
 use Rattle.std.specs.Prelude.{◌↔◌}
 use Rattle.std.proofs.lemmas.Option.{slice_get_within}
 use Rattle.pt_io.specs.Causes.{Appends, Rose}
@@ -37,16 +37,17 @@ use Rattle.pt_run.proofs.Begun.{only_unread}
 use Rattle.pt_run.proofs.Complete.{agrees, by_misses, by_platform, meaning, ok_err, one_meaning, same_ok, this_graph}
 use Rattle.pt_run.proofs.ReplayInBounds.{do_as_paced}
 use Rattle.pt_run.proofs.Missed.{missed_in}
+use Rattle.pt_sensor_files.specs.Bytes.{OfBytes}
 
 module _ (contents : Contents) (blocks : List Named) (graph_file : GraphFile) (air : List ℕ) (g : Graph) (xs : List ActorFiring) (can : CanReplay contents blocks graph_file air g xs) where
   abbrev begins : CanBegin contents blocks graph_file g
   begins = can.runs.begins
 
   -- the recording is the one that the file says
-  says : (h : Graph) → h ≡ g → (d : Result Air AirFault) → IfSome (contents air) (λ bytes. air_of h bytes ≡ d) → Ok can.recorded ≡ d
+  says : (h : Graph) → h ≡ g → (d : Result Air AirFault) → OfBytes (contents air) (λ bytes. air_of h bytes ≡ d) → Ok can.recorded ≡ d
   says h same d file =
-      agrees (air_of g) (contents air) can.bytes (Ok can.recorded) d can.reported (subst (λ reported. IfSome reported (λ bytes. air_of g bytes ≡ Ok can.recorded)) (sym can.reported) can.says)
-      (subst (λ (z : Graph). IfSome (contents air) (λ bytes. air_of z bytes ≡ d)) same file)
+      agrees (air_of g) (contents air) can.bytes (Ok can.recorded) d can.reported (subst (λ reported. OfBytes reported (λ bytes. air_of g bytes ≡ Ok can.recorded)) (sym can.reported) can.says)
+      (subst (λ (z : Graph). OfBytes (contents air) (λ bytes. air_of z bytes ≡ d)) same file)
 
   module _ (left : Leaves) (log : Bool) (w : SinkCall) where
     -- of a replay that ran

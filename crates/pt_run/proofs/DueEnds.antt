@@ -1,5 +1,5 @@
 -- How a call ends by its fault, of what is due.
-use Rattle.std.proofs.Common.{◌≡◌, ◌++◌, ℕ, ℤ, Bool, true, false, List, [], ◌∷◌, Option, Some, None, Ok, Err, IfSome, refl, sym, subst, inl, inr}
+use Rattle.std.proofs.Common.{◌≡◌, ◌++◌, ℕ, ℤ, Bool, true, false, List, [], ◌∷◌, Option, Some, None, Ok, Err, refl, sym, subst, inl, inr}
 use Rattle.std.specs.Prelude.{flat_map}
 use Rattle.pt_io.specs.Causes.{Appends, AppendsPart, Rose}
 use Rattle.pt_types.specs.declared.graph.Graph.{Graph}
@@ -14,10 +14,10 @@ use Rattle.pt_offsets.specs.Margins.{IsFirstInfeasible}
 use Rattle.pt_offsets.specs.Plans.{IsAdmitted, Parts}
 use Rattle.pt_slacks.specs.Text.{IsSlacked}
 use Rattle.pt_sensors.specs.declared.fault.RowFault.{RowFault}
-use Rattle.pt_sensors.specs.declared.recorded_fault.LateRows.TheVariants.{Refused, Taken}
+use Rattle.pt_sensor_files.specs.declared.recorded_fault.LateRows.TheVariants.{Refused, Taken}
 use Rattle.pt_io.specs.Calls.{Contents, SourceCall, SinkCall}
 use Rattle.pt_sensors.specs.Places.{of_run}
-use Rattle.pt_sensors.specs.Recorded.{AllPass, AreRows, SensorFails, SensorLate, SensorUnread}
+use Rattle.pt_sensor_files.specs.Recorded.{AllPass, AreRows, SensorFails, SensorLate, SensorUnread}
 use Rattle.pt_air.specs.AirOf.{air_of}
 use Rattle.pt_monitors.specs.Platforms.{missed_by}
 use Rattle.pt_words.specs.declared.orders.ClockChoice.{ClockChoice}
@@ -41,10 +41,11 @@ use Rattle.pt_run.proofs.ByFault.{Ends, EndsAudit, EndsBy, EndsMade, EndsMigrate
 use Rattle.pt_run.proofs.Finished.{missed_as_meant}
 use Rattle.pt_run.proofs.Stages.{by_admission, by_cycles, by_file, by_offsets, by_puts, by_rows, not_true, with_fault}
 use Rattle.pt_run.specs.GraphFiles.{graph_by}
+use Rattle.pt_sensor_files.specs.Bytes.{OfBytes}
 
 -- a run over a plan of the graph in the file with this name
 module _ (contents : Contents) (blocks : List Named) (graph_file : GraphFile) (workers : ℕ) (clock : ClockChoice) (log : Bool) (left : Leaves) (r : SourceCall) (w : SinkCall) (plan : Parts) (rows : ℕ → List Row) (admitted : IsAdmitted plan) (are : AreRows contents plan.graph rows) (in_time : AllPass Refused plan.graph rows)
-    (file : IfSome (contents graph_file.name) (λ bytes. graph_by blocks graph_file bytes ≡ Ok plan.graph)) where
+    (file : OfBytes (contents graph_file.name) (λ bytes. graph_by blocks graph_file bytes ≡ Ok plan.graph)) where
   abbrev By : Option Fault → Type 0
   By o = HasRunBy workers clock log (record { fault = o; left = left; read = r; wrote = w }) plan (of_run plan.graph rows)
 
@@ -99,7 +100,7 @@ module _ (contents : Contents) (blocks : List Named) (a : Answer) where
 
   -- the file with this name defines the graph
   abbrev IsFile : GraphFile → Graph → Type 0
-  IsFile graph_file g = IfSome (contents graph_file.name) (λ bytes. graph_by blocks graph_file bytes ≡ Ok g)
+  IsFile graph_file g = OfBytes (contents graph_file.name) (λ bytes. graph_by blocks graph_file bytes ≡ Ok g)
 
   -- Over the graph in the file with this name.
   module _ (graph_file : GraphFile) (g : Graph) (file : IsFile graph_file g) where
@@ -184,7 +185,7 @@ module _ (contents : Contents) (blocks : List Named) (a : Answer) where
           with_fault contents a (λ o. EndsReplay o a.left graph_file air log contents blocks a.read a.wrote) fault.ReadAir k.0 (k.0.1, with_plan (λ p rs. LastFails p.graph (graph_file.name ∷ []) air a.read) (subst (λ z. LastFails z (graph_file.name ∷ []) air a.read) (sym same) k.1), k.0.2)
       replayed air log (inr (inl k)) =
           with_fault contents a (λ o. EndsReplay o a.left graph_file air log contents blocks a.read a.wrote) (fault.Air k.0) k.1
-          (k.1.1, with_plan (λ p rs. IfSome (contents air) (λ bytes. air_of p.graph bytes ≡ Err k.0)) (subst (λ z. IfSome (contents air) (λ bytes. air_of z bytes ≡ Err k.0)) (sym same) k.2), k.1.2)
+          (k.1.1, with_plan (λ p rs. OfBytes (contents air) (λ bytes. air_of p.graph bytes ≡ Err k.0)) (subst (λ z. OfBytes (contents air) (λ bytes. air_of z bytes ≡ Err k.0)) (sym same) k.2), k.1.2)
       replayed air log (inr (inr k)) = by_outcome a.fault k.ran k.failed (with_plan (OnAir contents air (LeavesReplay log a.fault a.left a.wrote)) k.leaves)
         where
           by_outcome : (o : Option Fault) → has_replayed o ≡ true → (o ≡ Some fault.Write → Rose a.wrote.before a.wrote.now) → RunWith contents blocks graph_file (OnAir contents air (LeavesReplay log o a.left a.wrote)) → EndsReplay o a.left graph_file air log contents blocks a.read a.wrote

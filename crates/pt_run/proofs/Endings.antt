@@ -1,5 +1,5 @@
 -- How a command over a graph file ends, by how it ended over the graph.
-use Rattle.std.proofs.Common.{◌≡◌, ◌≢◌, ◌⊎◌, ◌∙◌, ℕ, List, [], Option, Some, None, Result, Ok, Err, IfSome, refl, sym, ap, subst, inl, inr, ⊎_elim}
+use Rattle.std.proofs.Common.{◌≡◌, ◌≢◌, ◌⊎◌, ◌∙◌, ℕ, List, [], Option, Some, None, Result, Ok, Err, refl, sym, ap, subst, inl, inr, ⊎_elim}
 use Rattle.pt_types.specs.declared.graph.Graph.{Graph}
 use Rattle.pt_types.specs.declared.rows.Row.{Row}
 use Rattle.pt_blocks.specs.declared.blocks.Named.{Named}
@@ -17,13 +17,13 @@ use Rattle.pt_slacks.specs.declared.slack.SlackFault.{SlackFault}
 use Rattle.pt_slacks.specs.declared.slack.SlackFault.TheVariants as slack
 use Rattle.pt_slacks.specs.Rings.{CauseOfSlacks}
 use Rattle.pt_slacks.specs.Text.{IsSlacked}
-use Rattle.pt_sensors.specs.declared.recorded_fault.LateRows.{LateRows}
-use Rattle.pt_sensors.specs.declared.recorded_fault.LateRows.TheVariants.{Taken}
-use Rattle.pt_sensors.specs.declared.recorded_fault.RecordedFault.{RecordedFault}
-use Rattle.pt_sensors.specs.declared.recorded_fault.RecordedFault.TheVariants as rows
-use Rattle.pt_sensors.specs.Asked.{ReadFails}
+use Rattle.pt_sensor_files.specs.declared.recorded_fault.LateRows.{LateRows}
+use Rattle.pt_sensor_files.specs.declared.recorded_fault.LateRows.TheVariants.{Taken}
+use Rattle.pt_sensor_files.specs.declared.recorded_fault.RecordedFault.{RecordedFault}
+use Rattle.pt_sensor_files.specs.declared.recorded_fault.RecordedFault.TheVariants as rows
+use Rattle.pt_sensor_files.specs.Asked.{ReadFails}
 use Rattle.pt_io.specs.Calls.{Contents, SourceCall, SinkCall}
-use Rattle.pt_sensors.specs.Recorded.{AreRows, CauseOfRows, SensorUnread}
+use Rattle.pt_sensor_files.specs.Recorded.{AreRows, CauseOfRows, SensorUnread}
 use Rattle.pt_io.specs.Clocks.{ClockView}
 use Rattle.pt_run.specs.declared.fault.Fault.{Fault}
 use Rattle.pt_run.specs.declared.fault.Fault.TheVariants as fault
@@ -35,6 +35,7 @@ use Rattle.pt_run.specs.Texts.{PutsOrReports, PutBy, left_by, left_with}
 use Rattle.pt_run.specs.Written.{FitOnAll, HasNothing, IsChecked, IsTables, Leaves, leaves_nothing}
 use Rattle.pt_run.specs.GraphFiles.{graph_by}
 use Rattle.pt_words.specs.Grammar.{GraphFile}
+use Rattle.pt_sensor_files.specs.Bytes.{OfBytes}
 
 -- where nothing is left, there are no misses and no platforms
 pub has_nothing : (o : Ending) (before now : List ClockView) → left_by o ≡ leaves_nothing → HasNothing (left_with o before now)
@@ -70,7 +71,7 @@ module _ (contents : Contents) (blocks : List Named) (graph_file : GraphFile) (r
   graph_unread failed a is out = inr (inl (out, subst (ReadFails [] graph_file.name) (sym is) failed))
 
   -- its text has a fault
-  pub graph_fails : (f : GraphFault) → (f ≢ graph.Memory → IfSome (contents graph_file.name) (λ bytes. graph_by blocks graph_file bytes ≡ Err f)) → RefusesAsDue (fault_of_graph f) r (λ a. AfterFile contents blocks graph_file a (λ g. ⊥))
+  pub graph_fails : (f : GraphFault) → (f ≢ graph.Memory → OfBytes (contents graph_file.name) (λ bytes. graph_by blocks graph_file bytes ≡ Err f)) → RefusesAsDue (fault_of_graph f) r (λ a. AfterFile contents blocks graph_file a (λ g. ⊥))
   graph_fails graph.Memory h a is out = inl out
   graph_fails graph.TooLong h a is out = inr (inr (inl (graph.TooLong, out, h (λ e. absurd cc))))
   graph_fails graph.NotJson h a is out = inr (inr (inl (graph.NotJson, out, h (λ e. absurd cc))))

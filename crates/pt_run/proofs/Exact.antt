@@ -1,5 +1,5 @@
 -- Where a cause is there, and none before it, its answer comes.
-use Rattle.std.proofs.Common.{◌≡◌, ℕ, ◌⊎◌, Bool, false, List, [], ◌∷◌, Option, Some, None, Result, Ok, Err, IfSome, ℤ, refl, sym, ap, subst, ◌∙◌, inl, inr, ⊎_elim}
+use Rattle.std.proofs.Common.{◌≡◌, ℕ, ◌⊎◌, Bool, false, List, [], ◌∷◌, Option, Some, None, Result, Ok, Err, ℤ, refl, sym, ap, subst, ◌∙◌, inl, inr, ⊎_elim}
 use Rattle.pt_types.specs.declared.graph.Graph.{Graph}
 use Rattle.pt_types.specs.declared.rows.Row.{Row}
 use Rattle.pt_blocks.specs.declared.blocks.Named.{Named}
@@ -16,10 +16,10 @@ use Rattle.pt_semantics.specs.Cycles.{NoFreeCycle}
 use Rattle.pt_semantics.specs.Offsets.{IsFeasible}
 use Rattle.pt_semantics.proofs.Lookups.{none_some}
 use Rattle.pt_turn.specs.Platforms.{PlatformView}
-use Rattle.pt_sensors.specs.declared.recorded_fault.LateRows.{LateRows}
-use Rattle.pt_sensors.specs.declared.recorded_fault.LateRows.TheVariants.{Refused, Taken}
+use Rattle.pt_sensor_files.specs.declared.recorded_fault.LateRows.{LateRows}
+use Rattle.pt_sensor_files.specs.declared.recorded_fault.LateRows.TheVariants.{Refused, Taken}
 use Rattle.pt_io.specs.Calls.{Contents, SourceCall, SinkCall}
-use Rattle.pt_sensors.specs.Recorded.{AreRows, SensorFails, SensorLate}
+use Rattle.pt_sensor_files.specs.Recorded.{AreRows, SensorFails, SensorLate}
 use Rattle.pt_run.specs.RunsAgreeing.{ReportsSensors}
 use Rattle.pt_turn.specs.declared.fault.TurnFault.{TurnFault}
 use Rattle.pt_turn.specs.declared.fault.TurnFault.TheVariants as turn
@@ -44,6 +44,7 @@ use Rattle.pt_run.proofs.Complete.{agrees, ok_err, same_ok, too_late}
 use Rattle.pt_run.proofs.PastRows.{PastRows, as_run, audit_past, past_rows, replay_past}
 use Rattle.pt_run.proofs.OneCause.{AllHave, fails_all, fails_late, fails_rows, late_all, meant_long, one_fails, one_infeasible, one_late, same_err}
 use Rattle.pt_run.specs.GraphFiles.{graph_by}
+use Rattle.pt_sensor_files.specs.Bytes.{OfBytes}
 
 -- a graph has no cycle that takes no time, and each sender can send in time, if the command refuses others
 abbrev IsFit : Command → Graph → Type 0
@@ -160,19 +161,19 @@ module _ (left : Leaves) (contents : Contents) (g : Graph) (others : List (List 
 
 -- over a graph file with known content
 module _ (contents : Contents) (blocks : List Named) (graph_file : GraphFile) (bytes : List ℕ) (reported : contents graph_file.name ≡ Some bytes) (left : Leaves) (r : SourceCall) (w : SinkCall) where
-  defines : (d : Result Graph GraphFault) → graph_by blocks graph_file bytes ≡ d → IfSome (contents graph_file.name) (λ bytes. graph_by blocks graph_file bytes ≡ d)
-  defines d is = subst (λ z. IfSome z (λ bytes. graph_by blocks graph_file bytes ≡ d)) (sym reported) is
+  defines : (d : Result Graph GraphFault) → graph_by blocks graph_file bytes ≡ d → OfBytes (contents graph_file.name) (λ bytes. graph_by blocks graph_file bytes ≡ d)
+  defines d is = subst (λ z. OfBytes z (λ bytes. graph_by blocks graph_file bytes ≡ d)) (sym reported) is
 
-  one_defined : (d e : Result Graph GraphFault) → graph_by blocks graph_file bytes ≡ d → IfSome (contents graph_file.name) (λ bytes. graph_by blocks graph_file bytes ≡ e) → d ≡ e
+  one_defined : (d e : Result Graph GraphFault) → graph_by blocks graph_file bytes ≡ d → OfBytes (contents graph_file.name) (λ bytes. graph_by blocks graph_file bytes ≡ e) → d ≡ e
   one_defined d e is other = agrees (graph_by blocks graph_file) (contents graph_file.name) bytes d e reported (defines d is) other
 
   answer : (command : Command) (g : Graph) (outcome : Option Fault) → graph_by blocks graph_file bytes ≡ Ok g → EndsBy outcome left (Some (command, graph_file)) contents blocks r w → Answer command contents g outcome
   answer command g outcome is ends = by_outcome outcome ends
     where
-      this_graph : (h : Graph) → IfSome (contents graph_file.name) (λ bytes. graph_by blocks graph_file bytes ≡ Ok h) → h ≡ g
+      this_graph : (h : Graph) → OfBytes (contents graph_file.name) (λ bytes. graph_by blocks graph_file bytes ≡ Ok h) → h ≡ g
       this_graph h other = sym (same_ok {E = GraphFault} g h (one_defined (Ok g) (Ok h) is other))
 
-      wrote_here : (o : Option Fault) (l : Leaves) (text : List ℕ) (h : Graph) → IsPut o → IfSome (contents graph_file.name) (λ bytes. graph_by blocks graph_file bytes ≡ Ok h) → Writes command contents h l text → Answer command contents g o
+      wrote_here : (o : Option Fault) (l : Leaves) (text : List ℕ) (h : Graph) → IsPut o → OfBytes (contents graph_file.name) (λ bytes. graph_by blocks graph_file bytes ≡ Ok h) → Writes command contents h l text → Answer command contents g o
       wrote_here o l text h put file writes = wrote left contents g (graph_file.name ∷ []) r command l text o put (subst (λ z. Writes command contents z l text) (this_graph h file) writes)
 
       fails_here : (f : Fault) → GraphWith contents blocks graph_file (λ h. CauseOf command f left contents h (graph_file.name ∷ []) r) → Answer command contents g (Some f)
@@ -191,7 +192,7 @@ module _ (contents : Contents) (blocks : List Named) (graph_file : GraphFile) (b
   refused : (command : Command) (f : GraphFault) (outcome : Option Fault) → graph_by blocks graph_file bytes ≡ Err f → EndsBy outcome left (Some (command, graph_file)) contents blocks r w → (outcome ≡ Some (fault.Graph f)) ⊎ WantsGraph outcome
   refused command f outcome is ends = by_outcome outcome ends
     where
-      no_graph : (h : Graph) → IfSome (contents graph_file.name) (λ bytes. graph_by blocks graph_file bytes ≡ Ok h) → ⊥
+      no_graph : (h : Graph) → OfBytes (contents graph_file.name) (λ bytes. graph_by blocks graph_file bytes ≡ Ok h) → ⊥
       no_graph h other = ok_err h f (sym (one_defined (Err f) (Ok h) is other))
 
       by_outcome : (o : Option Fault) → EndsBy o left (Some (command, graph_file)) contents blocks r w → (o ≡ Some (fault.Graph f)) ⊎ WantsGraph o
@@ -220,7 +221,7 @@ module _ (contents : Contents) (blocks : List Named) (graph_file : GraphFile) (b
   unmigrated : (f : GraphFault) (outcome : Option Fault) → graph_by blocks graph_file bytes ≡ Err f → EndsMigrated outcome left graph_file contents blocks r w → (outcome ≡ Some (fault.Graph f)) ⊎ WantsGraph outcome
   unmigrated f outcome is ends = by_outcome outcome ends
     where
-      no_graph : (h : Graph) → IfSome (contents graph_file.name) (λ bytes. graph_by blocks graph_file bytes ≡ Ok h) → ⊥
+      no_graph : (h : Graph) → OfBytes (contents graph_file.name) (λ bytes. graph_by blocks graph_file bytes ≡ Ok h) → ⊥
       no_graph h other = ok_err h f (sym (one_defined (Err f) (Ok h) is other))
 
       by_outcome : (o : Option Fault) → EndsMigrated o left graph_file contents blocks r w → (o ≡ Some (fault.Graph f)) ⊎ WantsGraph o

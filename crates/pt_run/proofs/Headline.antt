@@ -1,5 +1,5 @@
 -- The headline, of what is due.
-use Rattle.std.proofs.Common.{◌≡◌, ◌≢◌, ◌<◌, ◌++◌, [], ◌∷◌, ℕ, zero, suc, Bool, true, false, if◌then◌else◌, List, Option, Some, None, Ok, IfSome, flat_map, map, option_map, slice_get, unwrap_or, refl, sym, ap, ap₂, subst, inl, inr, ◌∙◌}
+use Rattle.std.proofs.Common.{◌≡◌, ◌≢◌, ◌<◌, ◌++◌, [], ◌∷◌, ℕ, zero, suc, Bool, true, false, if◌then◌else◌, List, Option, Some, None, Ok, flat_map, map, option_map, slice_get, unwrap_or, refl, sym, ap, ap₂, subst, inl, inr, ◌∙◌}
 use Rattle.std.proofs.lemmas.List.{length-map}
 use Rattle.std.proofs.lemmas.Option.{slice_get-map}
 use Rattle.pt_io.specs.Causes.{Appends, AppendsPart}
@@ -27,8 +27,8 @@ use Rattle.pt_tables.specs.Log.{log_text}
 use Rattle.pt_tables.specs.Platforms.{histories}
 use Rattle.pt_io.specs.Calls.{Contents}
 use Rattle.pt_sensors.specs.Places.{of_run}
-use Rattle.pt_sensors.specs.declared.recorded_fault.LateRows.TheVariants.{Refused}
-use Rattle.pt_sensors.specs.Recorded.{AllPass, AreRows, SensorLate}
+use Rattle.pt_sensor_files.specs.declared.recorded_fault.LateRows.TheVariants.{Refused}
+use Rattle.pt_sensor_files.specs.Recorded.{AllPass, AreRows, SensorLate}
 use Rattle.pt_words.specs.declared.orders.ClockChoice.{ClockChoice}
 use Rattle.pt_words.specs.declared.orders.ClockChoice.TheVariants.{Paced}
 use Rattle.pt_run.specs.declared.fault.Fault.{Fault}
@@ -44,6 +44,7 @@ use Rattle.pt_words.specs.Grammar.{GraphFile, Order, over}
 use Rattle.pt_run.specs.Written.{run_clocks, has_run, stop_of}
 use Rattle.pt_run.proofs.Stages.{by_admission, by_file, with_fault}
 use Rattle.pt_run.specs.GraphFiles.{graph_by}
+use Rattle.pt_sensor_files.specs.Bytes.{OfBytes}
 
 -- Platforms at the end, from all that contracts see of them.
 
@@ -142,7 +143,7 @@ module _ (contents : Contents) (blocks : List Named) (graph_file : GraphFile) (w
     late_row = λ actor row seen limit e. absurd (no_row actor row seen limit cc);
   }
 
-  late : (g : Graph) → IfSome (contents graph_file.name) (λ bytes. graph_by blocks graph_file bytes ≡ Ok g) → (actor row seen limit : ℕ) → RefusedWith (fault.LateRow actor row seen limit) a → SensorLate contents g actor row seen limit → Holds (Some (fault.LateRow actor row seen limit))
+  late : (g : Graph) → OfBytes (contents graph_file.name) (λ bytes. graph_by blocks graph_file bytes ≡ Ok g) → (actor row seen limit : ℕ) → RefusedWith (fault.LateRow actor row seen limit) a → SensorLate contents g actor row seen limit → Holds (Some (fault.LateRow actor row seen limit))
   late g file actor row seen limit h is = record {
     run = λ e. absurd cc;
     nothing_else = λ e. (ap ended h.1.1, h.1.0, h.2);
@@ -181,14 +182,14 @@ module _ (contents : Contents) (blocks : List Named) (graph_file : GraphFile) (w
         late_not_long : turn.Late actor tag reading limit ≡ turn.Long → ⊥
         late_not_long same = cc
 
-    ran : (g : Graph) → IfSome (contents graph_file.name) (λ bytes. graph_by blocks graph_file bytes ≡ Ok g) → plan.graph ≡ g → AreRows contents plan.graph all → AllPass Refused plan.graph all → Holds a.fault
+    ran : (g : Graph) → OfBytes (contents graph_file.name) (λ bytes. graph_by blocks graph_file bytes ≡ Ok g) → plan.graph ≡ g → AreRows contents plan.graph all → AllPass Refused plan.graph all → Holds a.fault
     ran g file same are in_time = record {
       run = λ e. record {
         graph = plan.graph;
         rank = rank_of plan.ranks;
         level = level_of plan.ranks;
         rows = rows;
-        file = subst (λ h. IfSome (contents graph_file.name) (λ bytes. graph_by blocks graph_file bytes ≡ Ok h)) (sym same) file;
+        file = subst (λ h. OfBytes (contents graph_file.name) (λ bytes. graph_by blocks graph_file bytes ≡ Ok h)) (sym same) file;
         sensors = (all, are, in_time, refl);
         leaves = leaves;
         readings = record { plan = plan; graph = refl; levels = refl; readings = k.leaves.readings };
@@ -198,7 +199,7 @@ module _ (contents : Contents) (blocks : List Named) (graph_file : GraphFile) (w
       late_row = λ actor row seen limit e. absurd (both (has_run a.fault) k.ran (ap has_run e));
     }
 
-  over_graph : (g : Graph) → IfSome (contents graph_file.name) (λ bytes. graph_by blocks graph_file bytes ≡ Ok g) → AfterAdmission contents g (graph_file.name ∷ []) a (HasRunBy workers clock log a) → Holds a.fault
+  over_graph : (g : Graph) → OfBytes (contents graph_file.name) (λ bytes. graph_by blocks graph_file bytes ≡ Ok g) → AfterAdmission contents g (graph_file.name ∷ []) a (HasRunBy workers clock log a) → Holds a.fault
   over_graph g file h =
       by_admission contents a Holds g (graph_file.name ∷ []) (HasRunBy workers clock log a) h
       (λ actors is cycle. refused (fault.Cycle actors) is refl (λ platform actor tag reading limit e. absurd cc) (λ actor row seen limit e. absurd cc))

@@ -22,6 +22,7 @@ use Rattle.pt_audit.proofs.FineLogs.{lawful_is_fine}
 use Rattle.pt_audit.proofs.Lawful.{fine_is_lawful}
 use Rattle.pt_audit.proofs.OneVerdict.{file_once}
 use Rattle.pt_run.specs.Auditing.{Accepts, IsJudged, IsUnlawful, Refuses}
+use Rattle.pt_sensor_files.specs.Bytes.{OfBytes}
 
 -- a text is the tables of the meaning if it is the tables that were written
 pub same_tables : (plan : Parts) (rows : ℕ → List Row) (tables text : List ℕ) → AreTables plan rows tables → (tables ≡ text) ↔ AreTables plan rows text
@@ -174,20 +175,23 @@ judged_whole plan rows bytes v k = by_verdict v k
     by_verdict Fine k = subst (Accepts plan rows) (whole (log_limit plan.graph.claims) bytes k.lawful.short) k
 
 -- so what is found of the fetched bytes holds of the content
-pub judged_content : (plan : Parts) (rows : ℕ → List Row) (content : Option (List ℕ)) (fetched : List ℕ) (v : Verdict) → IfSome content (λ bytes. fetched ≡ take (log_limit plan.graph.claims + 1) bytes) → IsJudged plan rows fetched v → IfSome content (λ bytes. IsJudged plan rows bytes v)
-judged_content plan rows None fetched v h k = tt
+pub judged_content : (plan : Parts) (rows : ℕ → List Row) (content : Option (List ℕ)) (fetched : List ℕ) (v : Verdict) → IfSome content (λ bytes. fetched ≡ take (log_limit plan.graph.claims + 1) bytes) → IsJudged plan rows fetched v → OfBytes content (λ bytes. IsJudged plan rows bytes v)
+judged_content plan rows None fetched v h k = (fetched, k)
 judged_content plan rows (Some bytes) fetched v h k = judged_whole plan rows bytes v (subst (λ bs. IsJudged plan rows bs v) h k)
 
 -- a verdict that isn't `Fine` refuses
-pub judged_unlawful : (plan : Parts) (rows : ℕ → List Row) (content : Option (List ℕ)) (v : Verdict) → v ≢ Fine → IfSome content (λ bytes. IsJudged plan rows bytes v) → IfSome content (λ bytes. IsUnlawful plan rows bytes v)
-judged_unlawful plan rows None v ne k = tt
-judged_unlawful plan rows (Some bytes) TooLong ne k = k
-judged_unlawful plan rows (Some bytes) NoLog ne k = k
-judged_unlawful plan rows (Some bytes) (Turn line) ne k = k
-judged_unlawful plan rows (Some bytes) (Unfinished i) ne k = k
-judged_unlawful plan rows (Some bytes) (Unlinked l) ne k = k
-judged_unlawful plan rows (Some bytes) Table ne k = k
-judged_unlawful plan rows (Some bytes) Fine ne k = absurd (ne refl)
+refused_by : (plan : Parts) (rows : ℕ → List Row) (bytes : List ℕ) (v : Verdict) → v ≢ Fine → IsJudged plan rows bytes v → IsUnlawful plan rows bytes v
+refused_by plan rows bytes TooLong ne k = k
+refused_by plan rows bytes NoLog ne k = k
+refused_by plan rows bytes (Turn line) ne k = k
+refused_by plan rows bytes (Unfinished i) ne k = k
+refused_by plan rows bytes (Unlinked l) ne k = k
+refused_by plan rows bytes Table ne k = k
+refused_by plan rows bytes Fine ne k = absurd (ne refl)
+
+pub judged_unlawful : (plan : Parts) (rows : ℕ → List Row) (content : Option (List ℕ)) (v : Verdict) → v ≢ Fine → OfBytes content (λ bytes. IsJudged plan rows bytes v) → OfBytes content (λ bytes. IsUnlawful plan rows bytes v)
+judged_unlawful plan rows None v ne k = (k.0, refused_by plan rows k.0 v ne k.1)
+judged_unlawful plan rows (Some bytes) v ne k = refused_by plan rows bytes v ne k
 
 -- what is found of tables with other names for the same things
 pub tables_at : (p q : Parts) (rows : ℕ → List Row) (platforms items : List PlatformView) (text bytes : List ℕ) (same : Bool) → q ≡ p → platforms ≡ items → text ≡ bytes → ((rs : ℕ → List Row) → HaveFinished q rs platforms → (same ≡ true) ↔ AreTables q rs text) →

@@ -1,5 +1,5 @@
 -- The log that a finished run or replay writes is lawful.
-use Rattle.std.proofs.Common.{◌≡◌, ◌++◌, [], ◌∷◌, ℕ, true, List, Option, None, Some, Ok, IfSome, slice_get, refl, sym, subst, inl, inr}
+use Rattle.std.proofs.Common.{◌≡◌, ◌++◌, [], ◌∷◌, ℕ, true, List, Option, None, Some, Ok, slice_get, refl, sym, subst, inl, inr}
 use Rattle.pt_io.specs.Causes.{Appends}
 use Rattle.pt_types.specs.declared.graph.Graph.{Graph}
 use Rattle.pt_types.specs.declared.rows.Row.{Row}
@@ -12,10 +12,10 @@ use Rattle.pt_turn.specs.Platforms.{PlatformView, state_at}
 use Rattle.pt_tables.specs.Log.{log_text}
 use Rattle.pt_tables.specs.Platforms.{histories}
 use Rattle.pt_confluence.specs.Gathered.{HaveFinished}
-use Rattle.pt_sensors.specs.declared.recorded_fault.LateRows.TheVariants.{Refused}
+use Rattle.pt_sensor_files.specs.declared.recorded_fault.LateRows.TheVariants.{Refused}
 use Rattle.pt_io.specs.Calls.{Contents, SinkCall}
 use Rattle.pt_sensors.specs.Places.{of_run}
-use Rattle.pt_sensors.specs.Recorded.{AllPass, AreRows}
+use Rattle.pt_sensor_files.specs.Recorded.{AllPass, AreRows}
 use Rattle.pt_audit.proofs.Printing.{printed_is_lawful}
 use Rattle.pt_words.specs.declared.orders.ClockChoice.{ClockChoice}
 use Rattle.pt_run.specs.declared.fault.Fault.{Fault}
@@ -31,6 +31,7 @@ use Rattle.pt_run.specs.Written.{Leaves, stop_of}
 use Rattle.pt_run.proofs.Finished.{kept_finished}
 use Rattle.pt_run.proofs.Stages.{by_admission, by_file, with_fault}
 use Rattle.pt_run.specs.GraphFiles.{graph_by}
+use Rattle.pt_sensor_files.specs.Bytes.{OfBytes}
 
 pub finished_is_lawful : FinishedRunsAreLawful
 finished_is_lawful contents c plan platforms misses text done short =
@@ -52,7 +53,7 @@ module _ (a : Answer) (workers : ℕ) (clock : ClockChoice) (contents : Contents
   abbrev Lawful : Option Fault → Type 0
   Lawful o = o ≡ None → RunWith contents blocks graph_file (WritesLawfulLog a.wrote)
 
-  ran : (plan : Parts) (all : ℕ → List Row) → IfSome (contents graph_file.name) (λ bytes. graph_by blocks graph_file bytes ≡ Ok plan.graph) → IsAdmitted plan → AreRows contents plan.graph all → AllPass Refused plan.graph all → HasRunBy workers clock true a plan (of_run plan.graph all) → Lawful a.fault
+  ran : (plan : Parts) (all : ℕ → List Row) → OfBytes (contents graph_file.name) (λ bytes. graph_by blocks graph_file bytes ≡ Ok plan.graph) → IsAdmitted plan → AreRows contents plan.graph all → AllPass Refused plan.graph all → HasRunBy workers clock true a plan (of_run plan.graph all) → Lawful a.fault
   ran plan all file admitted are in_time k none =
       let rows : ℕ → List Row = of_run plan.graph all in
       let puts = k.leaves.written none in
@@ -68,11 +69,11 @@ module _ (a : Answer) (workers : ℕ) (clock : ClockChoice) (contents : Contents
         };
       }
 
-  over_graph : (g : Graph) → IfSome (contents graph_file.name) (λ bytes. graph_by blocks graph_file bytes ≡ Ok g) → AfterAdmission contents g (graph_file.name ∷ []) a (HasRunBy workers clock true a) → Lawful a.fault
+  over_graph : (g : Graph) → OfBytes (contents graph_file.name) (λ bytes. graph_by blocks graph_file bytes ≡ Ok g) → AfterAdmission contents g (graph_file.name ∷ []) a (HasRunBy workers clock true a) → Lawful a.fault
   over_graph g file h =
       by_admission contents a Lawful g (graph_file.name ∷ []) (HasRunBy workers clock true a) h (λ actors is cycle e. absurd cc) (λ free send offset slack is first e. absurd cc)
       (λ free feasible sensor is unread e. absurd cc) (λ free feasible sensor f is fails e. absurd cc) (λ free feasible actor row seen limit is tardy e. absurd cc)
-      (λ plan all same admitted are in_time k. ran plan all (subst (λ h. IfSome (contents graph_file.name) (λ bytes. graph_by blocks graph_file bytes ≡ Ok h)) (sym same) file) admitted are in_time k)
+      (λ plan all same admitted are in_time k. ran plan all (subst (λ h. OfBytes (contents graph_file.name) (λ bytes. graph_by blocks graph_file bytes ≡ Ok h)) (sym same) file) admitted are in_time k)
 
   of_due : UnlessMemory a (IsDueTo (over (Run workers clock true) graph_file) contents blocks) → Lawful a.fault
   of_due (inl h) = with_fault contents a Lawful fault.Memory h (λ e. absurd cc)

@@ -1,5 +1,5 @@
 -- Over known files and one graph, each fault of a graph, a sensor or a meaning has one cause at most.
-use Rattle.std.proofs.Common.{◌≡◌, ℕ, ◌+◌, ◌*◌, ◌<◌, ◌≤◌, List, [], ◌∷◌, Some, None, Result, Ok, Err, IfSome, ℤ, pos, ◌+ℤ◌, ◌≤ℤ◌, ◌<ℤ◌, length, slice_get, sym, ap, ap₂, subst, ◌∙◌, arith, ⊎_elim}
+use Rattle.std.proofs.Common.{◌≡◌, ℕ, ◌+◌, ◌*◌, ◌<◌, ◌≤◌, List, [], ◌∷◌, Some, None, Result, Ok, Err, ℤ, pos, ◌+ℤ◌, ◌≤ℤ◌, ◌<ℤ◌, length, slice_get, sym, ap, ap₂, subst, ◌∙◌, arith, ⊎_elim}
 use Rattle.std.proofs.lemmas.Bool.{cases_lt}
 use Rattle.std.proofs.lemmas.Int.{ints}
 use Rattle.pt_tags.specs.declared.tag.Tag.{Tag}
@@ -20,11 +20,11 @@ use Rattle.pt_semantics.specs.Offsets.{IsOffset}
 use Rattle.pt_semantics.specs.Units.{at_output}
 use Rattle.pt_semantics.proofs.Acyclic.{ranks_are_one}
 use Rattle.pt_semantics.proofs.Lookups.{eight_found, none_some, same_some}
-use Rattle.pt_sensors.specs.declared.recorded_fault.LateRows.{LateRows}
-use Rattle.pt_sensors.specs.declared.recorded_fault.LateRows.TheVariants.{Refused}
+use Rattle.pt_sensor_files.specs.declared.recorded_fault.LateRows.{LateRows}
+use Rattle.pt_sensor_files.specs.declared.recorded_fault.LateRows.TheVariants.{Refused}
 use Rattle.pt_io.specs.Calls.{Contents}
 use Rattle.pt_sensors.specs.Places.{of_run}
-use Rattle.pt_sensors.specs.Recorded.{AllPass, AreRows, HaveRows, InTime, IsLateRow, RowsOfKind, SensorFails, SensorLate}
+use Rattle.pt_sensor_files.specs.Recorded.{AllPass, AreRows, HaveRows, InTime, IsLateRow, RowsOfKind, SensorFails, SensorLate}
 use Rattle.pt_run.specs.RunsAgreeing.{ReportsSensors}
 use Rattle.pt_run.proofs.ByFault.{IsMeant}
 use Rattle.pt_run.proofs.RunsAgreeing.{rows_are_one}
@@ -32,6 +32,7 @@ use Rattle.pt_run.specs.declared.fault.Fault.TheVariants as fault
 use Rattle.pt_run.specs.Causes.{IsTooLongForAll}
 use Rattle.pt_run.proofs.Complete.{agrees, ok_err, same_ok}
 use Rattle.pt_sensors.specs.Limits.{file_limits}
+use Rattle.pt_sensor_files.specs.Bytes.{OfBytes}
 
 pub same_err : {X E : Type 0} (x y : E) → ◌≡◌ {A = Result X E} (Err x) (Err y) → x ≡ y
 same_err x y e = cc
@@ -114,7 +115,7 @@ module _ (contents : Contents) (g : Graph) (reported : ReportsSensors contents g
       let moved : SensorFails late contents g actor e = subst (λ z. SensorFails late contents g z e) same k in
       let files = same_sensor moved.file h.file moved.bound h.bound (sym moved.sensor ∙ h.sensor) in
       let (bytes, is) = reported actor h.file h.bound h.sensor in
-      let faults : e ≡ f = same_err {X = List Row} e f (agrees (rows_of (file_limits g.claims)) (contents h.file) bytes (Err e) (Err f) is (subst (λ z. IfSome (contents z) (λ bytes. rows_of (file_limits g.claims) bytes ≡ Err e)) files.0 moved.fails) h.fails) in
+      let faults : e ≡ f = same_err {X = List Row} e f (agrees (rows_of (file_limits g.claims)) (contents h.file) bytes (Err e) (Err f) is (subst (λ z. OfBytes (contents z) (λ bytes. rows_of (file_limits g.claims) bytes ≡ Err e)) files.0 moved.fails) h.fails) in
       λ i. fault.Sensor (same i) (faults i)
 
   pub fails_late : (actor other row seen limit : ℕ) (f : RowFault) → SensorFails Refused contents g actor f → SensorLate contents g other row seen limit → ⊥
@@ -129,7 +130,7 @@ module _ (contents : Contents) (g : Graph) (reported : ReportsSensors contents g
       let moved : SensorLate contents g actor row2 seen2 limit2 = subst (λ z. SensorLate contents g z row2 seen2 limit2) same k in
       let files = same_sensor moved.file h.file moved.bound h.bound (sym moved.sensor ∙ h.sensor) in
       let (bytes, is) = reported actor h.file h.bound h.sensor in
-      let rows : moved.rows ≡ h.rows = same_ok {E = RowFault} moved.rows h.rows (agrees (rows_of (file_limits g.claims)) (contents h.file) bytes (Ok moved.rows) (Ok h.rows) is (subst (λ z. IfSome (contents z) (λ bytes. rows_of (file_limits g.claims) bytes ≡ Ok moved.rows)) files.0 moved.read) h.read) in
+      let rows : moved.rows ≡ h.rows = same_ok {E = RowFault} moved.rows h.rows (agrees (rows_of (file_limits g.claims)) (contents h.file) bytes (Ok moved.rows) (Ok h.rows) is (subst (λ z. OfBytes (contents z) (λ bytes. rows_of (file_limits g.claims) bytes ≡ Ok moved.rows)) files.0 moved.read) h.read) in
       let is_late : IsLateRow h.rows g.until h.bound row2 seen2 limit2 = subst (λ b. IsLateRow h.rows g.until b row2 seen2 limit2) files.1 (subst (λ rs. IsLateRow rs g.until moved.bound row2 seen2 limit2) rows moved.is_late) in
       let parts = one_late_row h.rows g.until h.bound row2 row seen2 seen limit2 limit is_late h.is_late in
       λ i. fault.LateRow (same i) (parts.0 i) (parts.1 i) (parts.2 i)

@@ -17,10 +17,10 @@ use Rattle.pt_causality.specs.Ranked.{IsFreeCycle}
 use Rattle.pt_offsets.specs.Margins.{IsFirstInfeasible}
 use Rattle.pt_offsets.specs.Plans.{IsAdmitted, Parts}
 use Rattle.pt_sensors.specs.declared.fault.RowFault.{RowFault}
-use Rattle.pt_sensors.specs.declared.recorded_fault.LateRows.TheVariants.{Refused, Taken}
+use Rattle.pt_sensor_files.specs.declared.recorded_fault.LateRows.TheVariants.{Refused, Taken}
 use Rattle.pt_io.specs.Calls.{Contents}
 use Rattle.pt_sensors.specs.Places.{of_run}
-use Rattle.pt_sensors.specs.Recorded.{AllPass, AreRows, SensorFails, SensorLate}
+use Rattle.pt_sensor_files.specs.Recorded.{AllPass, AreRows, SensorFails, SensorLate}
 use Rattle.pt_air.specs.AirOf.{air_of}
 use Rattle.pt_words.specs.declared.orders.ClockChoice.{ClockChoice}
 use Rattle.pt_words.specs.declared.orders.ClockChoice.TheVariants.{Paced}
@@ -45,6 +45,7 @@ use Rattle.pt_run.proofs.Complete.{ok_err, same_ok, too_late}
 use Rattle.pt_run.proofs.OneCause.{fails_rows, meant_long}
 use Rattle.pt_run.proofs.Stages.{by_admission, by_cycles, by_file, by_offsets, by_puts, by_rows, not_true, with_fault}
 use Rattle.pt_run.specs.GraphFiles.{graph_by}
+use Rattle.pt_sensor_files.specs.Bytes.{OfBytes}
 
 -- a call that was cut short
 module _ (o : Option Fault) where
@@ -70,13 +71,13 @@ module _ (order : Order) (c : Command) (graph_file : GraphFile) (alike : refused
   Comes y = IsDecided y order contents blocks → IsCutShort a.fault ⊎ IsAlike y a.fault
 
   abbrev IsFile : Graph → Type 0
-  IsFile g = IfSome (contents graph_file.name) (λ bytes. graph_by blocks graph_file bytes ≡ Ok g)
+  IsFile g = OfBytes (contents graph_file.name) (λ bytes. graph_by blocks graph_file bytes ≡ Ok g)
 
-  defines : (d : Result Graph GraphFault) → IsKnown contents graph_file.name → IfSome (contents graph_file.name) (λ bytes. graph_by blocks graph_file bytes ≡ d) → Defines (refused_as (Some order)) contents blocks (over c) d
+  defines : (d : Result Graph GraphFault) → IsKnown contents graph_file.name → OfBytes (contents graph_file.name) (λ bytes. graph_by blocks graph_file bytes ≡ d) → Defines (refused_as (Some order)) contents blocks (over c) d
   defines d reported file = record { graph_file = graph_file; words = alike; bytes = reported.0; reported = reported.1; defines = of_bytes (contents graph_file.name) reported.0 (λ bytes. graph_by blocks graph_file bytes ≡ d) reported.1 file }
 
   module _ (graph_known : GraphKnown order contents → IsKnown contents graph_file.name) (rows_known : RowsKnown order contents blocks → ReportsAll contents blocks graph_file) where
-    bad : (f : GraphFault) → IfSome (contents graph_file.name) (λ bytes. graph_by blocks graph_file bytes ≡ Err f) → Comes (Some (fault.Graph f))
+    bad : (f : GraphFault) → OfBytes (contents graph_file.name) (λ bytes. graph_by blocks graph_file bytes ≡ Err f) → Comes (Some (fault.Graph f))
     bad f file d = ⊎_elim (λ (is : a.fault ≡ Some (fault.Graph f)). inr is) (λ (wants : WantsGraph a.fault). inl (short_graph a.fault wants)) (x.graph c f (defines (Err f) (graph_known d) file))
 
     cyclic : (g : Graph) → IsFile g → (actors : List ℕ) → IsFreeCycle g actors → Comes (Some (fault.Cycle actors))
@@ -107,12 +108,12 @@ module _ (order : Order) (workers : ℕ) (clock : ClockChoice) (log : Bool) (gra
   abbrev run : Command
   run = Run workers clock log
 
-  tardy : (g : Graph) → IfSome (contents graph_file.name) (λ bytes. graph_by blocks graph_file bytes ≡ Ok g) → NoFreeCycle g → IsFeasible g → (actor row seen limit : ℕ) → SensorLate contents g actor row seen limit → Comes order run graph_file alike contents blocks a x (Some (fault.LateRow actor row seen limit))
+  tardy : (g : Graph) → OfBytes (contents graph_file.name) (λ bytes. graph_by blocks graph_file bytes ≡ Ok g) → NoFreeCycle g → IsFeasible g → (actor row seen limit : ℕ) → SensorLate contents g actor row seen limit → Comes order run graph_file alike contents blocks a x (Some (fault.LateRow actor row seen limit))
   tardy g file free feasible actor row seen limit is d =
       ⊎_elim (λ (h : a.fault ≡ Some (fault.LateRow actor row seen limit)). inr h) (λ (wants : WantsRows a.fault). inl (short_rows a.fault wants))
       (x.late_row workers clock log g actor row seen limit (reads order run graph_file alike contents blocks a x graph_known rows_known g file free (λ e. feasible) (rows_known d)) is)
 
-  admitted : (b : Answer) (g : Graph) → IfSome (contents graph_file.name) (λ bytes. graph_by blocks graph_file bytes ≡ Ok g) → (Then : Parts → (ℕ → List Row) → Type 0) → AfterAdmission contents g (graph_file.name ∷ []) b Then →
+  admitted : (b : Answer) (g : Graph) → OfBytes (contents graph_file.name) (λ bytes. graph_by blocks graph_file bytes ≡ Ok g) → (Then : Parts → (ℕ → List Row) → Type 0) → AfterAdmission contents g (graph_file.name ∷ []) b Then →
       ((plan : Parts) (rows : ℕ → List Row) → plan.graph ≡ g → IsAdmitted plan → AreRows contents plan.graph rows → AllPass Refused plan.graph rows → Then plan (of_run plan.graph rows) → Comes order run graph_file alike contents blocks a x b.fault) → Comes order run graph_file alike contents blocks a x b.fault
   admitted b g file Then h on =
       by_admission contents b (Comes order run graph_file alike contents blocks a x) g (graph_file.name ∷ []) Then h
@@ -122,7 +123,7 @@ module _ (order : Order) (workers : ℕ) (clock : ClockChoice) (log : Bool) (gra
       (λ free feasible actor f out is. fails order run graph_file alike contents blocks a x graph_known rows_known g file free (λ e. feasible) actor f is)
       (λ free feasible actor row seen limit out is. tardy g file free feasible actor row seen limit is) on
 
-  on_file : (b : Answer) (Then : Graph → Type 0) → AfterFile contents blocks graph_file b Then → ((g : Graph) → IfSome (contents graph_file.name) (λ bytes. graph_by blocks graph_file bytes ≡ Ok g) → Then g → Comes order run graph_file alike contents blocks a x b.fault) → Comes order run graph_file alike contents blocks a x b.fault
+  on_file : (b : Answer) (Then : Graph → Type 0) → AfterFile contents blocks graph_file b Then → ((g : Graph) → OfBytes (contents graph_file.name) (λ bytes. graph_by blocks graph_file bytes ≡ Ok g) → Then g → Comes order run graph_file alike contents blocks a x b.fault) → Comes order run graph_file alike contents blocks a x b.fault
   on_file b Then h on = by_file contents b (Comes order run graph_file alike contents blocks a x) blocks graph_file Then h (λ out is d. absurd d) (λ f out is. bad order run graph_file alike contents blocks a x graph_known rows_known f is) on
 
 -- no files decide how a run ends that has begun
@@ -158,9 +159,9 @@ module _ (contents : Contents) (blocks : List Named) (a b : Answer) where
   audits graph_file log x due =
       on_file (audit graph_file log) 1 Paced false graph_file refl contents blocks a x (λ k. k) (λ k. k) b (λ g. IsAudited log contents g (graph_file.name ∷ []) b) due
       (λ g file rest. admitted (audit graph_file log) 1 Paced false graph_file refl contents blocks a x (λ k. k) (λ k. k) b g file (IsJudgedBy log contents g (graph_file.name ∷ []) b) rest
-      (λ plan rows same is are pass k. judged plan rows (subst (λ z. IfSome (contents graph_file.name) (λ bytes. graph_by blocks graph_file bytes ≡ Ok z)) (sym same) file) is are pass g k))
+      (λ plan rows same is are pass k. judged plan rows (subst (λ z. OfBytes (contents graph_file.name) (λ bytes. graph_by blocks graph_file bytes ≡ Ok z)) (sym same) file) is are pass g k))
     where
-      judged : (plan : Parts) (rows : ℕ → List Row) → IfSome (contents graph_file.name) (λ bytes. graph_by blocks graph_file bytes ≡ Ok plan.graph) → IsAdmitted plan → AreRows contents plan.graph rows → AllPass Refused plan.graph rows → (g : Graph) → IsJudgedBy log contents g (graph_file.name ∷ []) b plan (of_run plan.graph rows) →
+      judged : (plan : Parts) (rows : ℕ → List Row) → OfBytes (contents graph_file.name) (λ bytes. graph_by blocks graph_file bytes ≡ Ok plan.graph) → IsAdmitted plan → AreRows contents plan.graph rows → AllPass Refused plan.graph rows → (g : Graph) → IsJudgedBy log contents g (graph_file.name ∷ []) b plan (of_run plan.graph rows) →
           IsDecided b.fault (audit graph_file log) contents blocks → IsCutShort a.fault ⊎ IsAlike b.fault a.fault
       judged plan rows file is are pass g k = by_last k
         where
@@ -206,7 +207,7 @@ module _ (contents : Contents) (blocks : List Named) (a b : Answer) where
       (λ g file rest. admitted (replay graph_file air workers log) 1 Paced false graph_file refl contents blocks a x (λ k. k) (λ k. k) b g file (IsReplayedBy air log contents g (graph_file.name ∷ []) b) rest
       (λ plan rows same is are pass k. by_last g file rows (subst (λ z. AreRows contents z rows × AllPass Refused z rows) same (are, pass)) (subst NoFreeCycle same is.no_free_cycle) (subst IsFeasible same is.feasible) plan (of_run plan.graph rows) k))
     where
-      by_last : (g : Graph) → IfSome (contents graph_file.name) (λ bytes. graph_by blocks graph_file bytes ≡ Ok g) → (rows : ℕ → List Row) → AreRows contents g rows × AllPass Refused g rows → NoFreeCycle g → IsFeasible g → (plan : Parts) (others : ℕ → List Row) → IsReplayedBy air log contents g (graph_file.name ∷ []) b plan others →
+      by_last : (g : Graph) → OfBytes (contents graph_file.name) (λ bytes. graph_by blocks graph_file bytes ≡ Ok g) → (rows : ℕ → List Row) → AreRows contents g rows × AllPass Refused g rows → NoFreeCycle g → IsFeasible g → (plan : Parts) (others : ℕ → List Row) → IsReplayedBy air log contents g (graph_file.name ∷ []) b plan others →
           IsDecided b.fault (replay graph_file air workers log) contents blocks → IsCutShort a.fault ⊎ IsAlike b.fault a.fault
       by_last g file rows are free feasible plan others (inl h) d = absurd (subst (λ z. IsDecided z (replay graph_file air workers log) contents blocks) h.0.0 d)
       by_last g file rows are free feasible plan others (inr (inl (f, out, wrong))) d =
@@ -226,11 +227,11 @@ module _ (contents : Contents) (blocks : List Named) (a b : Answer) where
       by_last g file rows are free feasible plan others (inr (inr ran)) d = absurd (undecided_replay b.fault graph_file air workers log contents blocks ran.ran d)
 
   -- the graph that the other one is due to
-  same_graph : (graph_file : GraphFile) → IsKnown contents graph_file.name → (g h : Graph) → IfSome (contents graph_file.name) (λ bytes. graph_by blocks graph_file bytes ≡ Ok g) → IfSome (contents graph_file.name) (λ bytes. graph_by blocks graph_file bytes ≡ Ok h) → h ≡ g
+  same_graph : (graph_file : GraphFile) → IsKnown contents graph_file.name → (g h : Graph) → OfBytes (contents graph_file.name) (λ bytes. graph_by blocks graph_file bytes ≡ Ok g) → OfBytes (contents graph_file.name) (λ bytes. graph_by blocks graph_file bytes ≡ Ok h) → h ≡ g
   same_graph graph_file (bytes, reported) g h file other =
       same_ok {E = GraphFault} h g (sym (of_bytes (contents graph_file.name) bytes (λ bytes. graph_by blocks graph_file bytes ≡ Ok h) reported other) ∙ of_bytes (contents graph_file.name) bytes (λ bytes. graph_by blocks graph_file bytes ≡ Ok g) reported file)
 
-  no_fault : (graph_file : GraphFile) → IsKnown contents graph_file.name → (g : Graph) (f : GraphFault) → IfSome (contents graph_file.name) (λ bytes. graph_by blocks graph_file bytes ≡ Ok g) → IfSome (contents graph_file.name) (λ bytes. graph_by blocks graph_file bytes ≡ Err f) → ⊥
+  no_fault : (graph_file : GraphFile) → IsKnown contents graph_file.name → (g : Graph) (f : GraphFault) → OfBytes (contents graph_file.name) (λ bytes. graph_by blocks graph_file bytes ≡ Ok g) → OfBytes (contents graph_file.name) (λ bytes. graph_by blocks graph_file bytes ≡ Err f) → ⊥
   no_fault graph_file (bytes, reported) g f file other = ok_err g f (sym (of_bytes (contents graph_file.name) bytes (λ bytes. graph_by blocks graph_file bytes ≡ Ok g) reported file) ∙ of_bytes (contents graph_file.name) bytes (λ bytes. graph_by blocks graph_file bytes ≡ Err f) reported other)
 
   -- all is written, or a write fails
@@ -245,14 +246,14 @@ module _ (contents : Contents) (blocks : List Named) (a b : Answer) where
   in_memory order (inr h) on = on h
 
   -- a command whose text is due to this graph writes it
-  writes : (graph_file : GraphFile) (known : IsKnown contents graph_file.name) (g : Graph) → IfSome (contents graph_file.name) (λ bytes. graph_by blocks graph_file bytes ≡ Ok g) → (Then : Graph → Type 0) → AfterFile contents blocks graph_file a Then → (Then g → Writes a.fault) → Writes a.fault
+  writes : (graph_file : GraphFile) (known : IsKnown contents graph_file.name) (g : Graph) → OfBytes (contents graph_file.name) (λ bytes. graph_by blocks graph_file bytes ≡ Ok g) → (Then : Graph → Type 0) → AfterFile contents blocks graph_file a Then → (Then g → Writes a.fault) → Writes a.fault
   writes graph_file known g file Then h on =
       by_file contents a Writes blocks graph_file Then h (λ out is. inl tt) (λ f out is. absurd (no_fault graph_file known g f file is)) (λ other there rest. on (subst Then (same_graph graph_file known g other file there) rest))
 
   uncycled : (g : Graph) → NoFreeCycle g → (Then : Type 0) → AfterCycles g a Then → (Then → Writes a.fault) → Writes a.fault
   uncycled g free Then h on = by_cycles contents a Writes g Then h (λ actors out is. absurd (free is.first is.edge is.path is.cycle is.free)) (λ free rest. on rest)
 
-  module _ (graph_file : GraphFile) (g : Graph) (file : IfSome (contents graph_file.name) (λ bytes. graph_by blocks graph_file bytes ≡ Ok g)) (free : NoFreeCycle g) where
+  module _ (graph_file : GraphFile) (g : Graph) (file : OfBytes (contents graph_file.name) (λ bytes. graph_by blocks graph_file bytes ≡ Ok g)) (free : NoFreeCycle g) where
     -- `check`
     checked : UnlessMemory a (IsDueTo (over Check graph_file) contents blocks) → IsFeasible g → IsKnown contents graph_file.name → Writes a.fault
     checked due feasible known =
@@ -306,7 +307,7 @@ module _ (contents : Contents) (blocks : List Named) (a b : Answer) where
       taken : Taken ≡ Refused → ⊥
       taken e = cc
 
-      last : (g : Graph) → IfSome (contents graph_file.name) (λ bytes. graph_by blocks graph_file bytes ≡ Ok g) → NoFreeCycle g → (rows : ℕ → List Row) → AreRows contents g rows → IsMeantBy g rows b → IsDecided b.fault (over Meaning graph_file) contents blocks → IsCutShort a.fault ⊎ IsAlike b.fault a.fault
+      last : (g : Graph) → OfBytes (contents graph_file.name) (λ bytes. graph_by blocks graph_file bytes ≡ Ok g) → NoFreeCycle g → (rows : ℕ → List Row) → AreRows contents g rows → IsMeantBy g rows b → IsDecided b.fault (over Meaning graph_file) contents blocks → IsCutShort a.fault ⊎ IsAlike b.fault a.fault
       last g file free rows are (inl k) d =
           subst (λ z. IsCutShort a.fault ⊎ IsAlike z a.fault) (sym k.0.0)
           (⊎_elim (λ (h : a.fault ≡ Some (fault.Long None)). inr h) (λ (wants : WantsRows a.fault). inl (short_rows a.fault wants))
@@ -316,7 +317,7 @@ module _ (contents : Contents) (blocks : List Named) (a b : Answer) where
       by_file contents b (Comes (over Slacks graph_file) Slacks graph_file refl contents blocks a x) blocks graph_file (λ g. IsDueFor Slacks contents g (graph_file.name ∷ []) b) due (λ out is d. absurd d) (λ f out is. bad (over Slacks graph_file) Slacks graph_file refl contents blocks a x (λ k. k) (λ k. k) f is)
       (λ g file rest. by_cycles contents b (Comes (over Slacks graph_file) Slacks graph_file refl contents blocks a x) g (IsSlackedBy g b) rest (λ actors out is. cyclic (over Slacks graph_file) Slacks graph_file refl contents blocks a x (λ k. k) (λ k. k) g file actors is) (λ free k. last g file free k))
     where
-      last : (g : Graph) → IfSome (contents graph_file.name) (λ bytes. graph_by blocks graph_file bytes ≡ Ok g) → NoFreeCycle g → IsSlackedBy g b → IsDecided b.fault (over Slacks graph_file) contents blocks → IsCutShort a.fault ⊎ IsAlike b.fault a.fault
+      last : (g : Graph) → OfBytes (contents graph_file.name) (λ bytes. graph_by blocks graph_file bytes ≡ Ok g) → NoFreeCycle g → IsSlackedBy g b → IsDecided b.fault (over Slacks graph_file) contents blocks → IsCutShort a.fault ⊎ IsAlike b.fault a.fault
       last g file free (inl k) d =
           let known = subst (λ z. IsDecided z (over Slacks graph_file) contents blocks) k.2.0 d in
           let defined = of_bytes (contents graph_file.name) known.0.0 (λ bytes. graph_by blocks graph_file bytes ≡ Ok g) known.0.1 file in

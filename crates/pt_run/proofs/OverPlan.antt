@@ -4,15 +4,15 @@ use Rattle.pt_io.specs.Causes.{Rose}
 use Rattle.pt_types.specs.declared.graph.Graph.{Graph}
 use Rattle.pt_types.specs.declared.rows.Row.{Row}
 use Rattle.pt_offsets.specs.Plans.{IsAdmitted, Parts}
-use Rattle.pt_sensors.specs.declared.recorded_fault.RecordedFault.{RecordedFault}
-use Rattle.pt_sensors.specs.declared.recorded_fault.LateRows.TheVariants.{Refused}
+use Rattle.pt_sensor_files.specs.declared.recorded_fault.RecordedFault.{RecordedFault}
+use Rattle.pt_sensor_files.specs.declared.recorded_fault.LateRows.TheVariants.{Refused}
 use Rattle.pt_sensors.specs.declared.sensor_rows.SensorRows.{SensorRows}
-use Rattle.pt_sensors.specs.Asked.{Asks, ReadFails}
+use Rattle.pt_sensor_files.specs.Asked.{Asks, ReadFails}
 use Rattle.pt_io.specs.Calls.{Contents, SourceCall}
 use Rattle.pt_sensors.specs.Listed.{rows_for}
 use Rattle.pt_sensors.specs.Places.{of_run}
-use Rattle.pt_sensors.specs.Recorded.{AllPass, AreRows, CauseOfRows}
-use Rattle.pt_sensors.proofs.Asking.{append_none, read_after}
+use Rattle.pt_sensor_files.specs.Recorded.{AllPass, AreRows, CauseOfRows}
+use Rattle.pt_sensor_files.proofs.Asking.{append_none, read_after}
 use Rattle.pt_run.specs.Asks.{all_sensors}
 use Rattle.pt_run.specs.Auditing.{LastFails}
 use Rattle.pt_run.specs.Due.{AfterAdmission, AfterRows, Answer, RefusesAsDue, UnlessMemory, WithPlan}

@@ -10,15 +10,15 @@ use Rattle.pt_offsets.specs.declared.fault.OffsetFault.TheVariants as offset
 use Rattle.pt_offsets.specs.declared.fault.PlanFault.{PlanFault}
 use Rattle.pt_offsets.specs.declared.fault.PlanFault.TheVariants as plan
 use Rattle.pt_offsets.specs.Plans.{IsAdmitted, Parts}
-use Rattle.pt_sensors.specs.declared.recorded_fault.RecordedFault.{RecordedFault}
-use Rattle.pt_sensors.specs.declared.recorded_fault.RecordedFault.TheVariants as rows
-use Rattle.pt_sensors.specs.declared.recorded_fault.LateRows.TheVariants.{Refused}
+use Rattle.pt_sensor_files.specs.declared.recorded_fault.RecordedFault.{RecordedFault}
+use Rattle.pt_sensor_files.specs.declared.recorded_fault.RecordedFault.TheVariants as rows
+use Rattle.pt_sensor_files.specs.declared.recorded_fault.LateRows.TheVariants.{Refused}
 use Rattle.pt_io.specs.Calls.{Contents, SourceCall, SinkCall}
 use Rattle.pt_sensors.specs.Places.{of_run}
 use Rattle.pt_turn.specs.declared.fault.TurnFault.{TurnFault}
 use Rattle.pt_turn.specs.declared.fault.TurnFault.TheVariants as turn
 use Rattle.pt_turn.specs.Platforms.{PlatformView}
-use Rattle.pt_sensors.specs.Recorded.{CauseOfRows, SensorUnread}
+use Rattle.pt_sensor_files.specs.Recorded.{CauseOfRows, SensorUnread}
 use Rattle.pt_run.specs.declared.outcome.Stopped.{Stopped}
 use Rattle.pt_run.specs.declared.outputs.Outputs.{Outputs}
 use Rattle.pt_run.specs.Readings.{RunClocks}

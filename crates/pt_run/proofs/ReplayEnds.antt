@@ -1,5 +1,5 @@
 -- How a replay over a graph ends, by how it ends over its plan.
-use Rattle.std.proofs.Common.{◌≡◌, ◌≢◌, ℕ, ◌+◌, Bool, true, false, cond, List, [], Option, Some, None, Result, Ok, Err, IfErr, IfOk, IfSome, length, take, refl, sym, ap, subst, ◌∙◌, inl, inr, ⊎_elim, arith}
+use Rattle.std.proofs.Common.{◌≡◌, ◌≢◌, ℕ, ◌+◌, Bool, true, false, cond, List, [], Option, Some, None, Result, Ok, Err, IfErr, IfOk, length, take, refl, sym, ap, subst, ◌∙◌, inl, inr, ⊎_elim, arith}
 use Rattle.std.specs.Prelude.{flat_map, nat_lt, string_bytes}
 use Rattle.std.proofs.lemmas.Bool.Decides.{nat_tests}
 use Rattle.std.proofs.lemmas.List.{length-take, take_all}
@@ -45,6 +45,7 @@ use Rattle.pt_run.proofs.Endings.{has_nothing}
 use Rattle.pt_run.proofs.ReplayInBounds.{never_late}
 use Rattle.pt_run.proofs.Stages.{past_air}
 use Rattle.pt_sensors.specs.Limits.{file_limits}
+use Rattle.pt_sensor_files.specs.Bytes.{OfBytes}
 
 -- What is read.
 
@@ -70,7 +71,7 @@ pub air_of-fetched : (g : Graph) (bytes : List ℕ) → air_of g (take ((file_li
 air_of-fetched g bytes = ap (λ (rows : Result (List AirRow) AirFault). rows >>= λ rows. Ok (air_with g rows)) (rows_of-fetched g bytes)
 
 -- the recording has a fault
-pub air_refused : (air : List ℕ) (contents : Contents) (g : Graph) (f : AirFault) (a : Answer) → (f ≢ airs.Memory → IfSome (contents air) (λ bytes. air_of g bytes ≡ Err f)) → RefusedWith (fault_of_air f) a → UnlessMemory a (λ a. AfterAir air contents g [] a ⊥)
+pub air_refused : (air : List ℕ) (contents : Contents) (g : Graph) (f : AirFault) (a : Answer) → (f ≢ airs.Memory → OfBytes (contents air) (λ bytes. air_of g bytes ≡ Err f)) → RefusedWith (fault_of_air f) a → UnlessMemory a (λ a. AfterAir air contents g [] a ⊥)
 air_refused air contents g airs.Memory a h out = inl out
 air_refused air contents g airs.TooLong a h out = inr (inr (inl (airs.TooLong, out, h (λ e. absurd cc))))
 air_refused air contents g airs.Header a h out = inr (inr (inl (airs.Header, out, h (λ e. absurd cc))))

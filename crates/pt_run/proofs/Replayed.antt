@@ -1,5 +1,5 @@
 -- What holds of a replay, of how it ends.
-use Rattle.std.proofs.Common.{◌≡◌, ◌≢◌, [], ◌∷◌, ℕ, Bool, true, false, List, Option, Some, None, Ok, IfSome, refl, sym, ap, subst, inl, inr}
+use Rattle.std.proofs.Common.{◌≡◌, ◌≢◌, [], ◌∷◌, ℕ, Bool, true, false, List, Option, Some, None, Ok, refl, sym, ap, subst, inl, inr}
 use Rattle.pt_types.specs.declared.graph.Graph.{Graph}
 use Rattle.pt_types.specs.declared.rows.Row.{Row}
 use Rattle.pt_blocks.specs.declared.blocks.Named.{Named}
@@ -10,10 +10,10 @@ use Rattle.pt_turn.specs.declared.fault.TurnFault.{TurnFault}
 use Rattle.pt_turn.specs.declared.fault.TurnFault.TheVariants as turn
 use Rattle.pt_turn.specs.Platforms.{state_at}
 use Rattle.pt_turn.specs.Running.{Shows}
-use Rattle.pt_sensors.specs.declared.recorded_fault.LateRows.TheVariants.{Refused}
+use Rattle.pt_sensor_files.specs.declared.recorded_fault.LateRows.TheVariants.{Refused}
 use Rattle.pt_io.specs.Calls.{Contents, SourceCall, SinkCall}
 use Rattle.pt_sensors.specs.Places.{of_run}
-use Rattle.pt_sensors.specs.Recorded.{AllPass, AreRows}
+use Rattle.pt_sensor_files.specs.Recorded.{AllPass, AreRows}
 use Rattle.pt_types.specs.declared.air.Air.{Air}
 use Rattle.pt_replay.specs.Outcome.{IsOutcome as IsReplayOutcome}
 use Rattle.pt_run.specs.declared.fault.Fault.{Fault}
@@ -27,6 +27,7 @@ use Rattle.pt_run.proofs.ByFault.{EndsReplay}
 use Rattle.pt_run.proofs.Stages.{not_true}
 use Rattle.pt_run.proofs.Stages.{by_admission, by_file, with_fault}
 use Rattle.pt_run.specs.GraphFiles.{graph_by}
+use Rattle.pt_sensor_files.specs.Bytes.{OfBytes}
 
 -- the platform that stopped a replay, as its recorded turns show
 pub stopped_in_air : (left : Leaves) (plan : Parts) (rows : ℕ → List Row) (recorded : Air) (platform : ℕ) (f : TurnFault) → IsReplayOutcome plan (level_of plan.ranks) rows recorded left.platforms (Some (platform, f)) →
@@ -66,20 +67,20 @@ module _ (contents : Contents) (blocks : List Named) (graph_file : GraphFile) (a
   refused : (f : Fault) → RefusedWith f a → has_replayed (Some f) ≡ false → Holds (Some f)
   refused f h none = record { run = λ e. absurd (not_both (has_replayed (Some f)) e none); nothing_else = λ e. (h.1, h.2) }
 
-  replayed : (g : Graph) → IfSome (contents graph_file.name) (λ bytes. graph_by blocks graph_file bytes ≡ Ok g) → (plan : Parts) (all : ℕ → List Row) → plan.graph ≡ g → IsAdmitted plan → AreRows contents plan.graph all → AllPass Refused plan.graph all →
+  replayed : (g : Graph) → OfBytes (contents graph_file.name) (λ bytes. graph_by blocks graph_file bytes ≡ Ok g) → (plan : Parts) (all : ℕ → List Row) → plan.graph ≡ g → IsAdmitted plan → AreRows contents plan.graph all → AllPass Refused plan.graph all →
       IsReplayedBy air log contents g (graph_file.name ∷ []) a plan (of_run plan.graph all) → Holds a.fault
   replayed g file plan all same admitted are in_time (inl h) = with_fault contents a Holds fault.ReadAir h.0 (refused fault.ReadAir h.0 refl)
   replayed g file plan all same admitted are in_time (inr (inl h)) = with_fault contents a Holds (fault.Air h.0) h.1 (refused (fault.Air h.0) h.1 refl)
   replayed g file plan all same admitted are in_time (inr (inr h)) = record {
     run = λ e. record {
       plan = plan;
-      file = subst (λ z. IfSome (contents graph_file.name) (λ bytes. graph_by blocks graph_file bytes ≡ Ok z)) (sym same) file;
+      file = subst (λ z. OfBytes (contents graph_file.name) (λ bytes. graph_by blocks graph_file bytes ≡ Ok z)) (sym same) file;
       over = record { admitted = admitted; rows = all; sensors = are; in_time = in_time; fact = h.leaves };
     };
     nothing_else = λ e. absurd (not_both (has_replayed a.fault) h.ran e);
   }
 
-  over_graph : (g : Graph) → IfSome (contents graph_file.name) (λ bytes. graph_by blocks graph_file bytes ≡ Ok g) → AfterAdmission contents g (graph_file.name ∷ []) a (IsReplayedBy air log contents g (graph_file.name ∷ []) a) → Holds a.fault
+  over_graph : (g : Graph) → OfBytes (contents graph_file.name) (λ bytes. graph_by blocks graph_file bytes ≡ Ok g) → AfterAdmission contents g (graph_file.name ∷ []) a (IsReplayedBy air log contents g (graph_file.name ∷ []) a) → Holds a.fault
   over_graph g file h =
       by_admission contents a Holds g (graph_file.name ∷ []) (IsReplayedBy air log contents g (graph_file.name ∷ []) a) h (λ actors is cycle. refused (fault.Cycle actors) is refl)
       (λ free send offset slack is first. refused (fault.Infeasible send offset slack) is refl) (λ free feasible sensor is unread. refused (fault.Read (Some sensor)) is refl)

@@ -1,5 +1,5 @@
 -- Two replays of one recording over the same files.
-use Rattle.std.proofs.Common.{◌≡◌, ◌<◌, ◌≤◌, ◌++◌, ℕ, Bool, List, Option, None, Some, Ok, IfSome, false, length, arith, slice_get, refl, sym, ap, ap₂, subst, ◌∙◌, ⊎_elim}
+use Rattle.std.proofs.Common.{◌≡◌, ◌<◌, ◌≤◌, ◌++◌, ℕ, Bool, List, Option, None, Some, Ok, false, length, arith, slice_get, refl, sym, ap, ap₂, subst, ◌∙◌, ⊎_elim}
 use Rattle.std.specs.Prelude.{flat_map}
 use Rattle.std.proofs.lemmas.Bool.{cases_lt}
 use Rattle.std.proofs.lemmas.Option.{slice_get_within}
@@ -50,6 +50,7 @@ use Rattle.pt_run.proofs.Replayed.{replay_headline}
 use Rattle.pt_run.proofs.RunsAgreeing.{by_histories, same_list, same_log, same_rows}
 use Rattle.pt_run.proofs.StepsAgreeing.{none_past}
 use Rattle.pt_run.specs.GraphFiles.{graph_by}
+use Rattle.pt_sensor_files.specs.Bytes.{OfBytes}
 
 -- a whole replay with these turns in its last round
 abbrev IsReplayOf : Graph → (ℕ → ℕ) → Air → (ℕ → List Row) → ReplayState → List VisitRecord → Type 0
@@ -144,7 +145,7 @@ replays_agree plan other rows air platforms others fault stop graphs h k = (
 -- two calls that ran
 module _ (log logged : Bool) (contents : Contents) (blocks : List Named) (graph_file : GraphFile) (air bytes : List ℕ) (o p : Option Fault) (left leaves : Leaves) (r q : SourceCall) (w v : SinkCall) (all : ReportsAll contents blocks graph_file) (reported : contents air ≡ Some bytes)
     (h : RunWith contents blocks graph_file (OnAir contents air (LeavesReplay log o left w))) (k : RunWith contents blocks graph_file (OnAir contents air (LeavesReplay logged p leaves v))) where
-  defines : (g : Graph) → IfSome (contents graph_file.name) (λ bytes. graph_by blocks graph_file bytes ≡ Ok g) → graph_by blocks graph_file all.bytes ≡ Ok g
+  defines : (g : Graph) → OfBytes (contents graph_file.name) (λ bytes. graph_by blocks graph_file bytes ≡ Ok g) → graph_by blocks graph_file all.bytes ≡ Ok g
   defines g file = of_bytes (contents graph_file.name) all.bytes (λ bytes. graph_by blocks graph_file bytes ≡ Ok g) all.reported file
 
   graphs : h.plan.graph ≡ k.plan.graph
@@ -153,7 +154,7 @@ module _ (log logged : Bool) (contents : Contents) (blocks : List Named) (graph_
   rows : of_run k.plan.graph k.over.rows ≡ of_run h.plan.graph h.over.rows
   rows = same_rows contents h.plan.graph k.plan.graph h.over.rows k.over.rows graphs (all.files h.plan.graph (defines h.plan.graph h.file)) h.over.sensors k.over.sensors
 
-  says : (g : Graph) (recorded : Air) → IfSome (contents air) (λ bytes. air_of g bytes ≡ Ok recorded) → air_of g bytes ≡ Ok recorded
+  says : (g : Graph) (recorded : Air) → OfBytes (contents air) (λ bytes. air_of g bytes ≡ Ok recorded) → air_of g bytes ≡ Ok recorded
   says g recorded file = of_bytes (contents air) bytes (λ bytes. air_of g bytes ≡ Ok recorded) reported file
 
   recorded : k.over.fact.recorded ≡ h.over.fact.recorded

@@ -1,5 +1,5 @@
 -- What is put on notes, of how a call ends.
-use Rattle.std.proofs.Common.{◌≡◌, List, Option, Some, None, Ok, IfSome, sym, ap, ◌∙◌}
+use Rattle.std.proofs.Common.{◌≡◌, List, Option, Some, None, Ok, sym, ap, ◌∙◌}
 use Rattle.std.specs.Prelude.{slice_get}
 use Rattle.pt_types.specs.declared.graph.Graph.{Graph}
 use Rattle.pt_blocks.specs.declared.blocks.Named.{Named}
@@ -14,13 +14,14 @@ use Rattle.pt_run.specs.Reporting.{AreOfGraph, Reports, ReportsBy}
 use Rattle.pt_run.specs.Written.{HasNothing, Leaves}
 use Rattle.pt_run.specs.GraphFiles.{graph_by}
 use Rattle.pt_words.specs.Grammar.{GraphFile}
+use Rattle.pt_sensor_files.specs.Bytes.{OfBytes}
 
 -- no platforms are of any graph
 pub of_none : (left : Leaves) (g : Graph) → HasNothing left → AreOfGraph left.platforms g
 of_none left g h i v at = absurd (none_some v (ap (λ ps. slice_get ps i) (sym h.1) ∙ at))
 
 -- what is reported over a graph that was read from the file of that name
-pub reported_file : (c : Command) (outcome : Option Fault) (misses : List Miss) (platforms : List PlatformView) (contents : Contents) (blocks : List Named) (graph_file : GraphFile) (g : Graph) (w : SinkCall) → IfSome (contents graph_file.name) (λ bytes. graph_by blocks graph_file bytes ≡ Ok g) → AreOfGraph platforms g → Reports outcome misses (Some g) w → ReportsBy outcome misses platforms (Some (c, graph_file)) contents blocks w
+pub reported_file : (c : Command) (outcome : Option Fault) (misses : List Miss) (platforms : List PlatformView) (contents : Contents) (blocks : List Named) (graph_file : GraphFile) (g : Graph) (w : SinkCall) → OfBytes (contents graph_file.name) (λ bytes. graph_by blocks graph_file bytes ≡ Ok g) → AreOfGraph platforms g → Reports outcome misses (Some g) w → ReportsBy outcome misses platforms (Some (c, graph_file)) contents blocks w
 reported_file c None misses platforms contents blocks graph_file g w read of h = (g, read, (of, h))
 reported_file c (Some fault.Memory) misses platforms contents blocks graph_file g w read of h = tt
 reported_file c (Some fault.Usage) misses platforms contents blocks graph_file g w read of h = h

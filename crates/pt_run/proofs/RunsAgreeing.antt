@@ -1,5 +1,5 @@
 -- Two runs of one graph over the same files.
-use Rattle.std.proofs.Common.{◌≡◌, ℕ, suc, Bool, true, false, List, [], ◌∷◌, ◌++◌, Option, None, Some, Result, Ok, IfSome, length, arith, slice_get, refl, sym, ap, ap₂, subst, ◌∙◌}
+use Rattle.std.proofs.Common.{◌≡◌, ℕ, suc, Bool, true, false, List, [], ◌∷◌, ◌++◌, Option, None, Some, Result, Ok, length, arith, slice_get, refl, sym, ap, ap₂, subst, ◌∙◌}
 use Rattle.std.specs.Prelude.{flat_map}
 use Rattle.std.proofs.Math.Path.{fun_ext}
 use Rattle.pt_types.specs.declared.graph.Graph.{Graph}
@@ -29,18 +29,19 @@ use Rattle.pt_rounds.specs.Outcome.{IsOutcome as IsPacedOutcome}
 use Rattle.pt_rounds.proofs.Agreeing.{runs_agree as paced_runs_agree}
 use Rattle.pt_io.specs.Calls.{Contents}
 use Rattle.pt_sensors.specs.Places.{of_run}
-use Rattle.pt_sensors.specs.Recorded.{AreRows, RowsOfKind}
+use Rattle.pt_sensor_files.specs.Recorded.{AreRows, RowsOfKind}
 use Rattle.pt_run.specs.RunsAgreeing.{FinishedRunsAgree, RunsAgree, ReportsSensors}
 use Rattle.pt_run.specs.Readings.{RunClocks}
 use Rattle.pt_run.specs.Runs.{IsFinishedRun, log_if}
 use Rattle.pt_sensors.specs.declared.limits.FileLimits.{FileLimits}
 use Rattle.pt_sensors.specs.Limits.{file_limits}
+use Rattle.pt_sensor_files.specs.Bytes.{OfBytes}
 
 -- a file with known content has one list of rows
 same_ok : (rows more : List Row) → ◌≡◌ {A = Result (List Row) RowFault} (Ok rows) (Ok more) → rows ≡ more
 same_ok rows more e = cc
 
-file_rows : (limits : FileLimits) (reported : Option (List ℕ)) (bytes : List ℕ) (rows more : List Row) → reported ≡ Some bytes → IfSome reported (λ bytes. rows_of limits bytes ≡ Ok rows) → IfSome reported (λ bytes. rows_of limits bytes ≡ Ok more) → rows ≡ more
+file_rows : (limits : FileLimits) (reported : Option (List ℕ)) (bytes : List ℕ) (rows more : List Row) → reported ≡ Some bytes → OfBytes reported (λ bytes. rows_of limits bytes ≡ Ok rows) → OfBytes reported (λ bytes. rows_of limits bytes ≡ Ok more) → rows ≡ more
 file_rows limits None bytes rows more e h k = absurd (none_some bytes e)
 file_rows limits (Some b) bytes rows more e h k = same_ok rows more (sym h ∙ k)
 

@@ -1,5 +1,5 @@
 -- With the least slacks nothing is missed in a paced run.
-use Rattle.std.proofs.Common.{◌≡◌, ℕ, ◌+◌, ◌<◌, ◌≤◌, List, [], IfSome, Option, Some, None, Ok, ℤ, pos, negsuc, ◌+ℤ◌, ◌≤ℤ◌, length, arith, refl, sym, ap, subst, ◌∙◌}
+use Rattle.std.proofs.Common.{◌≡◌, ℕ, ◌+◌, ◌<◌, ◌≤◌, List, [], Option, Some, None, Ok, ℤ, pos, negsuc, ◌+ℤ◌, ◌≤ℤ◌, length, arith, refl, sym, ap, subst, ◌∙◌}
 use Rattle.std.specs.Prelude.{flat_map, slice_get}
 use Rattle.std.proofs.lemmas.Int.{ints}
 use Rattle.std.proofs.lemmas.Option.{slice_get_within}
@@ -47,6 +47,7 @@ use Rattle.pt_run.specs.SlackRuns.{SlackRoundsMissNothing, SlackRunsMissNothing}
 use Rattle.pt_run.proofs.Complete.{agrees, same_ok}
 use Rattle.pt_run.proofs.Made.{none_of, place_of}
 use Rattle.pt_run.specs.GraphFiles.{graph_by}
+use Rattle.pt_sensor_files.specs.Bytes.{OfBytes}
 
 -- a paced reading is past the tag's time by no more than the slack that the offset asks for
 at_most : (z : ℤ) (n : ℕ) → z ≤ℤ pos n → at_least_zero z ≤ n
@@ -145,5 +146,5 @@ slack_rounds_miss_nothing g slack plan rows platforms fault least is run = none_
 
 pub slack_runs_miss_nothing : SlackRunsMissNothing
 slack_runs_miss_nothing g slack workers log contents blocks graph_file bytes text left least reported defines (h, file, run) =
-    let same : h ≡ with_slacks g slack = sym (same_ok {E = GraphFault} (with_slacks g slack) h (agrees (graph_by blocks graph_file) (contents graph_file.name) bytes (Ok (with_slacks g slack)) (Ok h) reported (subst (λ z. IfSome z (λ bytes. graph_by blocks graph_file bytes ≡ Ok (with_slacks g slack))) (sym reported) defines) file)) in
+    let same : h ≡ with_slacks g slack = sym (same_ok {E = GraphFault} (with_slacks g slack) h (agrees (graph_by blocks graph_file) (contents graph_file.name) bytes (Ok (with_slacks g slack)) (Ok h) reported (subst (λ z. OfBytes z (λ bytes. graph_by blocks graph_file bytes ≡ Ok (with_slacks g slack))) (sym reported) defines) file)) in
     run.finished.missed ∙ slack_rounds_miss_nothing g slack run.plan (of_run run.plan.graph run.finished.run.rows) left.platforms None least (run.graph ∙ same) (run.finished.run.fact.paced refl)

@@ -1,5 +1,5 @@
 -- From stage to stage of what is due.
-use Rattle.std.proofs.Common.{◌≡◌, ◌⊎◌, ◌∙◌, ℕ, ℤ, ◌≤◌, Bool, true, false, List, [], ◌∷◌, Option, Some, None, Ok, Err, IfSome, sym, ap, subst, inl, inr}
+use Rattle.std.proofs.Common.{◌≡◌, ◌⊎◌, ◌∙◌, ℕ, ℤ, ◌≤◌, Bool, true, false, List, [], ◌∷◌, Option, Some, None, Ok, Err, sym, ap, subst, inl, inr}
 use Rattle.pt_io.specs.Causes.{Appends, AppendsPart, Rose}
 use Rattle.pt_types.specs.declared.graph.Graph.{Graph}
 use Rattle.pt_types.specs.declared.rows.Row.{Row}
@@ -11,14 +11,14 @@ use Rattle.pt_causality.specs.Ranked.{IsFreeCycle}
 use Rattle.pt_offsets.specs.Margins.{IsFirstInfeasible}
 use Rattle.pt_offsets.specs.Plans.{IsAdmitted, Parts}
 use Rattle.pt_sensors.specs.declared.fault.RowFault.{RowFault}
-use Rattle.pt_sensors.specs.declared.recorded_fault.LateRows.{LateRows}
-use Rattle.pt_sensors.specs.declared.recorded_fault.LateRows.TheVariants.{Refused, Taken}
-use Rattle.pt_sensors.specs.Asked.{Asks, ReadFails, files_before}
+use Rattle.pt_sensor_files.specs.declared.recorded_fault.LateRows.{LateRows}
+use Rattle.pt_sensor_files.specs.declared.recorded_fault.LateRows.TheVariants.{Refused, Taken}
+use Rattle.pt_sensor_files.specs.Asked.{Asks, ReadFails, files_before}
 use Rattle.pt_io.specs.Calls.{Contents, SourceCall, SinkCall}
 use Rattle.pt_sensors.specs.Places.{of_run}
-use Rattle.pt_sensors.specs.Recorded.{AllPass, AreRows, SensorFails, SensorLate, SensorUnread}
+use Rattle.pt_sensor_files.specs.Recorded.{AllPass, AreRows, SensorFails, SensorLate, SensorUnread}
 use Rattle.pt_slacks.specs.Text.{IsSlacked}
-use Rattle.pt_sensors.proofs.Asking.{read_after}
+use Rattle.pt_sensor_files.proofs.Asking.{read_after}
 use Rattle.pt_run.specs.declared.fault.Fault.{Fault}
 use Rattle.pt_run.specs.declared.fault.Fault.TheVariants as fault
 use Rattle.pt_words.specs.declared.orders.Command.{Command}
@@ -33,6 +33,7 @@ use Rattle.pt_run.specs.Written.{FitOnAll, HasNothing, IsChecked, IsTables, Leav
 use Rattle.pt_run.proofs.Endings.{past_file, reported_due}
 use Rattle.pt_run.proofs.Reported.{of_none}
 use Rattle.pt_run.specs.GraphFiles.{graph_by}
+use Rattle.pt_sensor_files.specs.Bytes.{OfBytes}
 
 pub not_true : false ≡ true → ⊥
 not_true e = cc
@@ -48,7 +49,7 @@ module _ (contents : Contents) (a : Answer) (Goal : Option Fault → Type 0) whe
   by_puts Text (inr h) all part = subst Goal (sym h.0) (part h.1 h.2 h.3 h.4)
 
   pub by_file : (blocks : List Named) (graph_file : GraphFile) (Then : Graph → Type 0) → AfterFile contents blocks graph_file a Then → (RefusedWith (fault.Read None) a → ReadFails [] graph_file.name a.read → Goal (Some (fault.Read None)))
-      → ((f : GraphFault) → RefusedWith (fault.Graph f) a → IfSome (contents graph_file.name) (λ bytes. graph_by blocks graph_file bytes ≡ Err f) → Goal (Some (fault.Graph f))) → ((g : Graph) → IfSome (contents graph_file.name) (λ bytes. graph_by blocks graph_file bytes ≡ Ok g) → Then g → Goal a.fault) → Goal a.fault
+      → ((f : GraphFault) → RefusedWith (fault.Graph f) a → OfBytes (contents graph_file.name) (λ bytes. graph_by blocks graph_file bytes ≡ Err f) → Goal (Some (fault.Graph f))) → ((g : Graph) → OfBytes (contents graph_file.name) (λ bytes. graph_by blocks graph_file bytes ≡ Ok g) → Then g → Goal a.fault) → Goal a.fault
   by_file blocks graph_file Then (inl h) unread fails on = with_fault (fault.Read None) h.0 (unread h.0 h.1)
   by_file blocks graph_file Then (inr (inl h)) unread fails on = with_fault (fault.Graph h.0) h.1 (fails h.0 h.1 h.2)
   by_file blocks graph_file Then (inr (inr h)) unread fails on = on h.0 h.1 h.2
@@ -139,7 +140,7 @@ module _ (o : Option Fault) (left : Leaves) (r q : SourceCall) (w : SinkCall) wh
   on_memory Then Other on (inr h) = inr (on h)
 
 -- the graph file was asked for before, and it defines this graph
-module _ (contents : Contents) (blocks : List Named) (graph_file : GraphFile) (g : Graph) (read : IfSome (contents graph_file.name) (λ bytes. graph_by blocks graph_file bytes ≡ Ok g)) (o : Option Fault) (left : Leaves) (first asked now : Option (List (List ℕ))) (start before last : ℕ) (w : SinkCall) (asks : Asks first asked (graph_file.name ∷ [])) (grew : start ≤ before) where
+module _ (contents : Contents) (blocks : List Named) (graph_file : GraphFile) (g : Graph) (read : OfBytes (contents graph_file.name) (λ bytes. graph_by blocks graph_file bytes ≡ Ok g)) (o : Option Fault) (left : Leaves) (first asked now : Option (List (List ℕ))) (start before last : ℕ) (w : SinkCall) (asks : Asks first asked (graph_file.name ∷ [])) (grew : start ≤ before) where
   abbrev inner : SourceCall
   inner = record { asked_before = asked; asked_now = now; before = before; now = last }
 

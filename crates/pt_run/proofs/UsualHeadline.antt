@@ -1,5 +1,5 @@
 -- From the headline to that of a run whose words state no number of claims.
-use Rattle.std.proofs.Common.{◌≡◌, ℕ, List, Option, None, Some, Ok, IfSome, refl}
+use Rattle.std.proofs.Common.{◌≡◌, ℕ, List, Option, None, Some, Ok, refl}
 use Rattle.pt_types.specs.declared.graph.Graph.{Graph}
 use Rattle.pt_blocks.specs.declared.blocks.Named.{Named}
 use Rattle.pt_graph.specs.GraphOf.{graph_of}
@@ -7,9 +7,10 @@ use Rattle.pt_words.specs.Grammar.{usual_file}
 use Rattle.pt_run.specs.GraphFiles.{graph_by}
 use Rattle.pt_run.specs.UsualHeadline.{UsualHeadline}
 use Rattle.pt_run.proofs.GraphFiles.{usual_by}
+use Rattle.pt_sensor_files.specs.Bytes.{OfBytes}
 
-graph_is : (blocks : List Named) (name : List ℕ) (content : Option (List ℕ)) (g : Graph) → IfSome content (λ bytes. graph_by blocks (usual_file name) bytes ≡ Ok g) → IfSome content (λ bytes. graph_of blocks bytes ≡ Ok g)
-graph_is blocks name None g h = tt
+graph_is : (blocks : List Named) (name : List ℕ) (content : Option (List ℕ)) (g : Graph) → OfBytes content (λ bytes. graph_by blocks (usual_file name) bytes ≡ Ok g) → OfBytes content (λ bytes. graph_of blocks bytes ≡ Ok g)
+graph_is blocks name None g h = (h.0, usual_by blocks (usual_file name) h.0 g refl h.1)
 graph_is blocks name (Some bytes) g h = usual_by blocks (usual_file name) bytes g refl h
 
 pub usual_headline : UsualHeadline

@@ -3,7 +3,7 @@ use Rattle.std.specs.Prelude.{◌≡◌, ◌⊎◌, ◌+◌, ◌++◌, ℕ, List
 use Rattle.pt_types.specs.declared.graph.Graph.{Graph}
 use Rattle.pt_types.specs.declared.graph.Actor.{Actor}
 use Rattle.pt_blocks.specs.declared.blocks.Named.{Named}
-use Rattle.pt_sensors.specs.Asked.{Asks, AsksOrNot, sensor_files}
+use Rattle.pt_sensor_files.specs.Asked.{Asks, AsksOrNot, sensor_files}
 use Rattle.pt_io.specs.Calls.{Contents, SourceCall}
 use Rattle.pt_run.specs.declared.fault.Fault.{Fault}
 use Rattle.pt_run.specs.declared.fault.Fault.TheVariants as fault

@@ -1,15 +1,16 @@
 -- How `audit` ends.
-use Rattle.std.specs.Prelude.{◌≡◌, ◌++◌, ℕ, List, [], ◌∷◌, IfSome, codes}
+use Rattle.std.specs.Prelude.{◌≡◌, ◌++◌, ℕ, List, [], ◌∷◌, codes}
 use Rattle.pt_types.specs.declared.graph.Graph.{Graph}
 use Rattle.pt_types.specs.declared.rows.Row.{Row}
 use Rattle.pt_offsets.specs.Plans.{Parts}
-use Rattle.pt_sensors.specs.Asked.{ReadFails}
+use Rattle.pt_sensor_files.specs.Asked.{ReadFails}
 use Rattle.pt_io.specs.Calls.{Contents, SourceCall}
 use Rattle.pt_audit.specs.LawfulLogs.{IsLawfulLog}
 use Rattle.pt_audit.specs.Verdicts.{IsHead, IsVerdict}
 use Rattle.pt_audit.specs.declared.verdict.Verdict.{Verdict}
 use Rattle.pt_audit.specs.declared.verdict.Verdict.TheVariants.{Fine, Table}
 use Rattle.pt_run.specs.Asks.{all_sensors}
+use Rattle.pt_sensor_files.specs.Bytes.{OfBytes}
 
 -- the line `lawful`
 abbrev pub lawful_line : List ℕ
@@ -40,7 +41,7 @@ IsJudged plan rows bytes v = IsUnlawful plan rows bytes v
 
 -- a fact of a plan, the rows of a run and the content of the log, if that is known
 abbrev pub OnLog : Contents → List ℕ → (Parts → (ℕ → List Row) → List ℕ → Type 0) → Parts → (ℕ → List Row) → Type 0
-OnLog contents log Fact plan rows = IfSome (contents log) (Fact plan rows)
+OnLog contents log Fact plan rows = OfBytes (contents log) (Fact plan rows)
 
 -- the last file, a log or a recording, could not be read: it was asked for after the files in `others` and those of all sensors
 abbrev pub LastFails : Graph → List (List ℕ) → List ℕ → SourceCall → Type 0

@@ -3,7 +3,7 @@
 -- A command goes from stage to stage: the graph file, the cycles of its graph, the offsets, the rows of its sensors, and so on. At
 -- each stage it is refused, for a cause that is this stage's alone, or it goes on to the next. `IsDueTo` and `IsDueFor` list the stages
 -- of each order and of each command.
-use Rattle.std.specs.Prelude.{◌≡◌, ◌⊎◌, ℕ, ℤ, Bool, true, List, [], ◌∷◌, Option, Some, None, Result, Ok, Err, IfSome}
+use Rattle.std.specs.Prelude.{◌≡◌, ◌⊎◌, ℕ, ℤ, Bool, true, List, [], ◌∷◌, Option, Some, None, Result, Ok, Err}
 use Rattle.pt_io.specs.Causes.{Appends, AppendsPart, Rose}
 use Rattle.pt_types.specs.declared.graph.Graph.{Graph}
 use Rattle.pt_types.specs.declared.rows.Row.{Row}
@@ -17,12 +17,12 @@ use Rattle.pt_offsets.specs.Plans.{IsAdmitted, Parts}
 use Rattle.pt_slacks.specs.Rings.{IsRing}
 use Rattle.pt_slacks.specs.Text.{IsSlacked}
 use Rattle.pt_sensors.specs.declared.fault.RowFault.{RowFault}
-use Rattle.pt_sensors.specs.declared.recorded_fault.LateRows.{LateRows}
-use Rattle.pt_sensors.specs.declared.recorded_fault.LateRows.TheVariants.{Refused, Taken}
-use Rattle.pt_sensors.specs.Asked.{ReadFails}
+use Rattle.pt_sensor_files.specs.declared.recorded_fault.LateRows.{LateRows}
+use Rattle.pt_sensor_files.specs.declared.recorded_fault.LateRows.TheVariants.{Refused, Taken}
+use Rattle.pt_sensor_files.specs.Asked.{ReadFails}
 use Rattle.pt_io.specs.Calls.{Contents, SourceCall, SinkCall}
 use Rattle.pt_sensors.specs.Places.{of_run}
-use Rattle.pt_sensors.specs.Recorded.{AllPass, AreRows, SensorFails, SensorLate, SensorUnread}
+use Rattle.pt_sensor_files.specs.Recorded.{AllPass, AreRows, SensorFails, SensorLate, SensorUnread}
 use Rattle.pt_air.specs.declared.fault.AirFault.{AirFault}
 use Rattle.pt_air.specs.AirOf.{air_of}
 use Rattle.pt_audit.specs.declared.verdict.Verdict.{Verdict}
@@ -45,6 +45,7 @@ use Rattle.pt_run.specs.Texts.{left_by}
 use Rattle.pt_words.specs.Grammar.{GraphFile, Order, over, make, migrate, audit, replay}
 use Rattle.pt_run.specs.Written.{FitOnAll, GraphWith, HasNothing, IsChecked, IsTables, Leaves, run_clocks, has_run, leaves_nothing, stop_of}
 use Rattle.pt_run.specs.GraphFiles.{graph_by}
+use Rattle.pt_sensor_files.specs.Bytes.{OfBytes}
 
 -- the answer of a call: its fault, what it leaves, and the source and the sink before it and after it
 pub record Answer : Type 0 where
@@ -110,7 +111,7 @@ AnswersAsDue text made r Due = (a : Answer) → a.read ≡ r → Answers text ma
 abbrev pub AfterFile : Contents → List Named → GraphFile → Answer → (Graph → Type 0) → Type 0
 AfterFile contents blocks graph_file a Then =
     (RefusedWith (fault.Read None) a × ReadFails [] graph_file.name a.read)
-    ⊎ (((f : GraphFault) × RefusedWith (fault.Graph f) a × IfSome (contents graph_file.name) (λ bytes. graph_by blocks graph_file bytes ≡ Err f))
+    ⊎ (((f : GraphFault) × RefusedWith (fault.Graph f) a × OfBytes (contents graph_file.name) (λ bytes. graph_by blocks graph_file bytes ≡ Err f))
     ⊎ GraphWith contents blocks graph_file Then)
 
 -- cycles: these actors are a cycle that takes no time; or there is none
@@ -137,7 +138,7 @@ AfterRows late contents g others a Then =
 abbrev pub AfterAir : List ℕ → Contents → Graph → List (List ℕ) → Answer → Type 0 → Type 0
 AfterAir air contents g others a Then =
     (RefusedWith fault.ReadAir a × LastFails g others air a.read)
-    ⊎ (((f : AirFault) × RefusedWith (fault.Air f) a × IfSome (contents air) (λ bytes. air_of g bytes ≡ Err f))
+    ⊎ (((f : AirFault) × RefusedWith (fault.Air f) a × OfBytes (contents air) (λ bytes. air_of g bytes ≡ Err f))
     ⊎ Then)
 
 -- a fact of an admitted plan of the graph
@@ -172,8 +173,8 @@ IsSlackedBy g a = ((sends : List ℕ) × (gain : ℕ) × RefusedWith (fault.Ring
 abbrev pub IsJudgedBy : List ℕ → Contents → Graph → List (List ℕ) → Answer → Parts → (ℕ → List Row) → Type 0
 IsJudgedBy log contents g others a plan rows =
     (RefusedWith fault.ReadLog a × LastFails g others log a.read)
-    ⊎ (((v : Verdict) × RefusedWith (fault.Unlawful v) a × IfSome (contents log) (λ bytes. IsUnlawful plan rows bytes v))
-    ⊎ (IfSome (contents log) (Accepts plan rows) × OnlyPuts a (λ text. text ≡ lawful_line)))
+    ⊎ (((v : Verdict) × RefusedWith (fault.Unlawful v) a × OfBytes (contents log) (λ bytes. IsUnlawful plan rows bytes v))
+    ⊎ (OfBytes (contents log) (Accepts plan rows) × OnlyPuts a (λ text. text ≡ lawful_line)))
 
 -- a replay that ran: all was written, or a write failed, or a platform stopped it
 pub record HasReplayedBy (air : List ℕ) (log : Bool) (contents : Contents) (a : Answer) (plan : Parts) (rows : ℕ → List Row) : Type 0 where

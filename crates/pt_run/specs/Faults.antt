@@ -8,8 +8,8 @@ use Rattle.pt_offsets.specs.declared.fault.OffsetFault.{OffsetFault}
 use Rattle.pt_offsets.specs.declared.fault.OffsetFault.TheVariants as offset
 use Rattle.pt_offsets.specs.declared.fault.PlanFault.{PlanFault}
 use Rattle.pt_offsets.specs.declared.fault.PlanFault.TheVariants as plan
-use Rattle.pt_sensors.specs.declared.recorded_fault.RecordedFault.{RecordedFault}
-use Rattle.pt_sensors.specs.declared.recorded_fault.RecordedFault.TheVariants as recorded
+use Rattle.pt_sensor_files.specs.declared.recorded_fault.RecordedFault.{RecordedFault}
+use Rattle.pt_sensor_files.specs.declared.recorded_fault.RecordedFault.TheVariants as recorded
 use Rattle.pt_air.specs.declared.fault.AirFault.{AirFault}
 use Rattle.pt_air.specs.declared.fault.AirFault.TheVariants as air
 use Rattle.pt_slacks.specs.declared.slack.SlackFault.{SlackFault}

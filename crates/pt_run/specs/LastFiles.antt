@@ -5,12 +5,12 @@ use Rattle.pt_audit.specs.Limits.{log_limit}
 use Rattle.pt_sensors.specs.Limits.{file_limits}
 use Rattle.pt_semantics.specs.Rows.{FitRows}
 use Rattle.pt_offsets.specs.Plans.{IsAdmitted, Parts}
-use Rattle.pt_sensors.specs.declared.recorded_fault.LateRows.TheVariants.{Refused}
+use Rattle.pt_sensor_files.specs.declared.recorded_fault.LateRows.TheVariants.{Refused}
 use Rattle.pt_sensors.specs.declared.sensor_rows.SensorRows.{SensorRows}
 use Rattle.pt_io.specs.Calls.{Contents}
 use Rattle.pt_sensors.specs.Listed.{rows_for}
 use Rattle.pt_sensors.specs.Places.{StandInPlace, of_run}
-use Rattle.pt_sensors.specs.Recorded.{AllPass, AreRows}
+use Rattle.pt_sensor_files.specs.Recorded.{AllPass, AreRows}
 use Rattle.pt_run.specs.declared.fault.Fault.{Fault}
 use Rattle.pt_run.specs.declared.fault.Fault.TheVariants as fault
 use Rattle.pt_run.specs.declared.last_file.LastFile.{LastFile}

@@ -1,5 +1,5 @@
 -- What a run leaves, whatever its clock, by which readings it went, and what it writes.
-use Rattle.std.specs.Prelude.{◌≡◌, ◌≢◌, ◌++◌, [], ℕ, Bool, List, Option, None, Some, Ok, IfSome, flat_map}
+use Rattle.std.specs.Prelude.{◌≡◌, ◌≢◌, ◌++◌, [], ℕ, Bool, List, Option, None, Some, Ok, flat_map}
 use Rattle.pt_io.specs.Causes.{Appends, AppendsPart}
 use Rattle.pt_types.specs.declared.rows.Row.{Row}
 use Rattle.pt_types.specs.declared.firing.ActorFiring.{ActorFiring}
@@ -19,12 +19,13 @@ use Rattle.pt_run.specs.declared.fault.Fault.TheVariants as fault
 use Rattle.pt_run.specs.Written.{Leaves, stop_of}
 use Rattle.pt_run.specs.GraphFiles.{graph_by}
 use Rattle.pt_words.specs.Grammar.{GraphFile}
+use Rattle.pt_sensor_files.specs.Bytes.{OfBytes}
 
 -- the graph file defines an admitted graph, its sensors' files have rows, none of which is late, and a fact holds of the plan
 -- of the graph and of the rows up to its horizon
 pub record RunWith (contents : Contents) (blocks : List Named) (graph_file : GraphFile) (Fact : Parts → (ℕ → List Row) → Type 0) : Type 0 where
   pub plan : Parts
-  pub file : IfSome (contents graph_file.name) (λ bytes. graph_by blocks graph_file bytes ≡ Ok plan.graph)
+  pub file : OfBytes (contents graph_file.name) (λ bytes. graph_by blocks graph_file bytes ≡ Ok plan.graph)
   pub over : RunOver contents plan (Fact plan)
 
 -- what was put is the tables of the meaning and, if asked for, the log of the platforms, the numbers in whose turns 64 bits hold

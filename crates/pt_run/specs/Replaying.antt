@@ -1,5 +1,5 @@
 -- How `replay` ends.
-use Rattle.std.specs.Prelude.{◌≡◌, ◌≢◌, ◌↔◌, ℕ, Bool, true, false, List, [], Option, Some, None, Ok, IfSome, flat_map, length}
+use Rattle.std.specs.Prelude.{◌≡◌, ◌≢◌, ◌↔◌, ℕ, Bool, true, false, List, [], Option, Some, None, Ok, flat_map, length}
 use Rattle.pt_io.specs.Causes.{Appends, AppendsPart}
 use Rattle.pt_types.specs.declared.rows.Row.{Row}
 use Rattle.pt_blocks.specs.declared.blocks.Named.{Named}
@@ -7,10 +7,10 @@ use Rattle.pt_causality.specs.Ranked.{level_of}
 use Rattle.pt_offsets.specs.Plans.{IsAdmitted, Parts}
 use Rattle.pt_semantics.specs.Rows.{FitRows}
 use Rattle.pt_sensors.specs.declared.sensor_rows.SensorRows.{SensorRows}
-use Rattle.pt_sensors.specs.declared.recorded_fault.LateRows.TheVariants.{Refused}
+use Rattle.pt_sensor_files.specs.declared.recorded_fault.LateRows.TheVariants.{Refused}
 use Rattle.pt_sensors.specs.Listed.{rows_for}
 use Rattle.pt_sensors.specs.Places.{StandInPlace, of_run}
-use Rattle.pt_sensors.specs.Recorded.{AllPass, AreRows}
+use Rattle.pt_sensor_files.specs.Recorded.{AllPass, AreRows}
 use Rattle.pt_run.specs.declared.outputs.Outputs.{Outputs}
 use Rattle.pt_run.specs.Runs.{AreOutputs, RunOver}
 use Rattle.pt_turn.specs.declared.fault.TurnFault.{TurnFault}
@@ -26,12 +26,13 @@ use Rattle.pt_run.specs.declared.fault.Fault.TheVariants as fault
 use Rattle.pt_run.specs.Leaving.{PutsMeaning, RunWith}
 use Rattle.pt_words.specs.Grammar.{GraphFile, Order, replay}
 use Rattle.pt_run.specs.Written.{HasNothing, Leaves}
+use Rattle.pt_sensor_files.specs.Bytes.{OfBytes}
 
 -- the file `air`, if its content is known, says these lags and transits of the plan's graph, and a fact holds of the plan, of the
 -- rows and of them
 pub record OnAir (contents : Contents) (air : List ℕ) (Fact : Parts → (ℕ → List Row) → Air → Type 0) (plan : Parts) (rows : ℕ → List Row) : Type 0 where
   pub recorded : Air
-  pub file : IfSome (contents air) (λ bytes. air_of plan.graph bytes ≡ Ok recorded)
+  pub file : OfBytes (contents air) (λ bytes. air_of plan.graph bytes ≡ Ok recorded)
   -- no row breaks a stated bound exactly if the recorded times keep to the bounds
   pub bounds : (recorded.breach ≡ None) ↔ KeepsBounds plan.graph recorded
   pub fact : Fact plan rows recorded
@@ -86,7 +87,7 @@ pub record IsRecorded (contents : Contents) (air : List ℕ) (plan : Parts) (ent
   pub in_time : AllPass Refused plan.graph (rows_for entries)
   pub places : StandInPlace plan.graph entries
   pub fit : FitRows plan.graph (of_run plan.graph (rows_for entries))
-  pub file : IfSome (contents air) (λ bytes. air_of plan.graph bytes ≡ Ok recorded)
+  pub file : OfBytes (contents air) (λ bytes. air_of plan.graph bytes ≡ Ok recorded)
   pub transits : length recorded.transits ≡ length plan.graph.links
   pub bounds : (recorded.breach ≡ None) ↔ KeepsBounds plan.graph recorded
 

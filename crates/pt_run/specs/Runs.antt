@@ -24,11 +24,11 @@ use Rattle.pt_tables.specs.Misses.{miss_line}
 use Rattle.pt_tables.specs.Platforms.{histories, platform_lines}
 use Rattle.pt_confluence.specs.Gathered.{HaveFinished}
 use Rattle.pt_rounds.specs.Outcome.{IsOutcome as IsPacedOutcome}
-use Rattle.pt_sensors.specs.declared.recorded_fault.LateRows.TheVariants.{Refused}
-use Rattle.pt_sensors.specs.declared.recorded_fault.RecordedFault.{RecordedFault}
+use Rattle.pt_sensor_files.specs.declared.recorded_fault.LateRows.TheVariants.{Refused}
+use Rattle.pt_sensor_files.specs.declared.recorded_fault.RecordedFault.{RecordedFault}
 use Rattle.pt_io.specs.Calls.{Contents, SourceCall}
 use Rattle.pt_sensors.specs.Places.{of_run}
-use Rattle.pt_sensors.specs.Recorded.{AllPass, AreRows, CauseOfRows}
+use Rattle.pt_sensor_files.specs.Recorded.{AllPass, AreRows, CauseOfRows}
 use Rattle.pt_words.specs.declared.orders.ClockChoice.{ClockChoice}
 use Rattle.pt_words.specs.declared.orders.ClockChoice.TheVariants.{Machine, Paced, Step}
 use Rattle.pt_engine.specs.declared.rounds.Rounds.{Rounds}

@@ -1,5 +1,5 @@
 -- The headline of a run whose words state no number of claims.
-use Rattle.std.specs.Prelude.{◌≡◌, ℕ, Bool, List, Option, Ok, Some, IfSome, map}
+use Rattle.std.specs.Prelude.{◌≡◌, ℕ, Bool, List, Option, Ok, Some, map}
 use Rattle.pt_blocks.specs.declared.blocks.Named.{Named}
 use Rattle.pt_graph.specs.GraphOf.{graph_of}
 use Rattle.pt_io.specs.Calls.{Contents, SinkCall}
@@ -10,10 +10,11 @@ use Rattle.pt_run.specs.declared.fault.Fault.{Fault}
 use Rattle.pt_run.specs.Headline.{Headline, Inputs}
 use Rattle.pt_run.specs.OverFiles.{HasHeadline, HasReadings, at_end, inputs_of}
 use Rattle.pt_run.specs.Written.{Leaves, run_clocks}
+use Rattle.pt_sensor_files.specs.Bytes.{OfBytes}
 
 -- the graph that the bytes of a file define, whatever number of claims the command states
 abbrev pub usual_inputs : Contents → List Named → Inputs
-usual_inputs contents blocks = record (inputs_of contents blocks) { graph = λ graph_file g. IfSome (contents graph_file.name) (λ bytes. graph_of blocks bytes ≡ Ok g) }
+usual_inputs contents blocks = record (inputs_of contents blocks) { graph = λ graph_file g. OfBytes (contents graph_file.name) (λ bytes. graph_of blocks bytes ≡ Ok g) }
 
 -- with the usual number of claims the headline is of the graph that the bytes of the file define
 abbrev pub UsualHeadline : Type 0

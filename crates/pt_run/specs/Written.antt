@@ -1,5 +1,5 @@
 -- What a command leaves, and what it must write.
-use Rattle.std.specs.Prelude.{◌≡◌, ◌≤◌, ◌*◌, [], ℕ, ℤ, Bool, true, false, List, length, Option, None, Some, Ok, IfSome}
+use Rattle.std.specs.Prelude.{◌≡◌, ◌≤◌, ◌*◌, [], ℕ, ℤ, Bool, true, false, List, length, Option, None, Some, Ok}
 use Rattle.pt_types.specs.declared.graph.Graph.{Graph}
 use Rattle.pt_types.specs.declared.rows.Row.{Row}
 use Rattle.pt_blocks.specs.declared.blocks.Named.{Named}
@@ -24,10 +24,11 @@ use Rattle.pt_run.specs.declared.fault.Fault.{Fault}
 use Rattle.pt_run.specs.declared.fault.Fault.TheVariants as fault
 use Rattle.pt_words.specs.Grammar.{GraphFile}
 use Rattle.pt_run.specs.GraphFiles.{graph_by}
+use Rattle.pt_sensor_files.specs.Bytes.{OfBytes}
 
 -- the graph file, if its content is known, defines a graph, and a fact holds of that graph
 abbrev pub GraphWith : Contents → List Named → GraphFile → (Graph → Type 0) → Type 0
-GraphWith contents blocks graph_file Fact = (g : Graph) × IfSome (contents graph_file.name) (λ bytes. graph_by blocks graph_file bytes ≡ Ok g) × Fact g
+GraphWith contents blocks graph_file Fact = (g : Graph) × OfBytes (contents graph_file.name) (λ bytes. graph_by blocks graph_file bytes ≡ Ok g) × Fact g
 
 -- what a call leaves besides what it wrote: the misses and the platforms of a run and, for a run by the machine's clock, what
 -- the clocks handed in showed before it and after it

@@ -1,12 +1,13 @@
 //! What comes before a run: the graph file is read, the graph is planned, and its platforms are opened with the rows of its sensors.
 
-ghost use Rattle.std.specs.Prelude.{◌≡◌, ◌≤◌, ◌<◌, IfOk, IfErr, IfSome, Ok, Some, [], ◌∷◌, length};
+ghost use Rattle.std.specs.Prelude.{◌≡◌, ◌≤◌, ◌<◌, IfOk, IfErr, Ok, Some, [], ◌∷◌, length};
 ghost use Rattle.std.specs.Arc.{arc_value};
 ghost use Rattle.pt_io.specs.Calls.{reading, writing};
 ghost use Rattle.pt_types.specs.Lawful.{IsLawful};
 ghost use Rattle.pt_types.specs.Limits.{greatest_claims};
 ghost use Rattle.pt_offsets.specs.Plans.{IsAdmitted};
-ghost use Rattle.pt_sensors.specs.Asked.{Asks};
+ghost use Rattle.pt_sensor_files.specs.Asked.{Asks};
+ghost use Rattle.pt_sensor_files.specs.Bytes.{OfBytes};
 ghost use Rattle.pt_run.specs.Asks.{AsksAlone, AsksOver};
 ghost use Rattle.pt_words.specs.Views.{file_in};
 ghost use Rattle.pt_run.specs.GraphFiles.{IsGraphOf, graph_by};
@@ -24,7 +25,7 @@ use pt_blocks::Blocks;
 use pt_graph::read_graph;
 use pt_io::{FetchFault, Sink, Source};
 use pt_offsets::{Plan, Unplanned, plan_of};
-use pt_sensors::{LateRows, recorded};
+use pt_sensor_files::{LateRows, recorded};
 use pt_tags::Memory;
 use pt_turn::{Platform, open_all};
 use pt_types::{Graph, MOST_GRAPH_BYTES};
@@ -41,7 +42,7 @@ pub fn graph_at<S: Source>(
 ) -> Result<Graph, Fault>
     requires { graph_file.claims ≤ greatest_claims }
     ensures graph { IfOk result
-        (λ g. IfSome (S.contents source.old graph_file.entry.name.now)
+        (λ g. OfBytes (S.contents source.old graph_file.entry.name.now)
         (λ bytes. graph_by blocks.now.listed.items (file_in graph_file.entry) bytes ≡ Ok g)) }
     ensures defined { IfOk result (IsGraphOf blocks.now.listed.items (file_in graph_file.entry)) }
     ensures lawful { IfOk result IsLawful }

@@ -14,7 +14,8 @@ use crate::fault::{Fault, fault_of_rows};
 use pt_audit::log_limit;
 use pt_io::{FetchFault, Source};
 use pt_offsets::Plan;
-use pt_sensors::{LateRows, SensorRows, file_limits, recorded};
+use pt_sensor_files::{LateRows, recorded};
+use pt_sensors::{SensorRows, file_limits};
 use std::alloc::Global;
 use std::sync::Arc;
 

@@ -5,8 +5,8 @@ use Rattle.pt_run.proofs.Asks.{alone_asks}
 use Rattle.pt_run.proofs.GraphFiles.{fault_with, graph_by-fetched, graph_with, lawful_with}
 use Rattle.pt_io.specs.Causes.{Rose}
 use Rattle.pt_run.specs.Due.{AfterFile, RefusesAsDue}
-use Rattle.pt_sensors.specs.Asked.{Asks}
-use Rattle.pt_sensors.proofs.Asking.{of_content}
+use Rattle.pt_sensor_files.specs.Asked.{Asks}
+use Rattle.pt_sensor_files.proofs.Asking.{of_content}
 use Rattle.pt_run.proofs.Endings.{graph_fails, graph_unread}
 use Rattle.pt_run.proofs.admission.graph_at.Goals as goal
 use Rattle.pt_run.specs.GraphFiles.{graph_by, with_claims}

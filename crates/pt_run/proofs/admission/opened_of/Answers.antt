@@ -3,10 +3,10 @@ use Rattle.std.specs.Arc.{arc_value}
 use Rattle.pt_io.specs.Calls.{SourceCall, reading}
 use Rattle.pt_types.specs.declared.graph.Graph.{Graph}
 use Rattle.pt_offsets.specs.Plans.{IsAdmitted, Parts}
-use Rattle.pt_sensors.specs.Asked.{Asks, sensor_files}
+use Rattle.pt_sensor_files.specs.Asked.{Asks, sensor_files}
 use Rattle.pt_sensors.specs.Listed.{rows_for}
-use Rattle.pt_sensors.specs.declared.recorded_fault.LateRows.TheVariants.{Refused}
-use Rattle.pt_sensors.specs.Recorded.{AllPass, AreRows, CauseOfRows}
+use Rattle.pt_sensor_files.specs.declared.recorded_fault.LateRows.TheVariants.{Refused}
+use Rattle.pt_sensor_files.specs.Recorded.{AllPass, AreRows, CauseOfRows}
 use Rattle.pt_run.specs.Asks.{AsksOver, all_sensors}
 use Rattle.pt_run.specs.Faults.{fault_of_rows}
 use Rattle.pt_run.proofs.Asks.{all_rows_asked, memory_asked, rows_asked}

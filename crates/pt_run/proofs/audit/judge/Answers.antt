@@ -1,4 +1,4 @@
-use Rattle.std.proofs.Common.{[], IfSome, inl, inr, subst}
+use Rattle.std.proofs.Common.{[], inl, inr, subst}
 use Rattle.std.specs.Arc.{arc_value}
 use Rattle.pt_offsets.specs.Plans.{Parts}
 use Rattle.pt_io.specs.Calls.{Contents}
@@ -13,6 +13,7 @@ use Rattle.pt_run.proofs.Judging.{judged_content, judged_unlawful}
 use Rattle.pt_run.proofs.OverPlan.{past_all_rows}
 use Rattle.pt_run.proofs.Stages.{on_admitted}
 use Rattle.pt_run.proofs.audit.judge.Goals as goal
+use Rattle.pt_sensor_files.specs.Bytes.{OfBytes}
 
 pub returns-in-Err-clause-due : goal.returns-in-Err-clause-due
 returns-in-Err-clause-due g c =
@@ -29,7 +30,7 @@ returns-in-Fine-clause-due g c =
     let rows = of_run plan.graph (rows_for c.in-Ok.found.entries.items) in
     let judged : IsJudged plan rows c.in-Ok.found.bytes.items c.in-Ok-verdict_on.verdict = subst (λ bs. IsJudged plan rows bs c.in-Ok-verdict_on.verdict) c.as_slice.ensures.value c.in-Ok-verdict_on.ensures in
     let content = judged_content plan rows (contents log) c.in-Ok.found.bytes.items c.in-Ok-verdict_on.verdict c.in-Ok.ensures.bytes judged in
-    let fine : IfSome (contents log) (λ bytes. IsJudged plan rows bytes Fine) = subst (λ (v : Verdict). IfSome (contents log) (λ bytes. IsJudged plan rows bytes v)) c.in-Fine.is content in
+    let fine : OfBytes (contents log) (λ bytes. IsJudged plan rows bytes Fine) = subst (λ (v : Verdict). OfBytes (contents log) (λ bytes. IsJudged plan rows bytes v)) c.in-Fine.is content in
     λ a is puts. past_all_rows contents plan c.in-Ok.found.entries.items (IsJudgedBy log contents plan.graph []) c.in-Ok.ensures.rows a (inr (inr (inr (fine, puts))))
 
 pub returns-clause-due : goal.returns-clause-due

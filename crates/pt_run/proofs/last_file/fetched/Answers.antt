@@ -4,7 +4,7 @@ use Rattle.pt_io.specs.Calls.{Contents, SourceCall, reading}
 use Rattle.pt_io.specs.Causes.{Rose}
 use Rattle.pt_types.specs.declared.graph.Graph.{Graph}
 use Rattle.pt_offsets.specs.Plans.{IsAdmitted, Parts}
-use Rattle.pt_sensors.specs.Asked.{Asks}
+use Rattle.pt_sensor_files.specs.Asked.{Asks}
 use Rattle.pt_sensors.specs.Listed.{rows_for}
 use Rattle.pt_run.specs.Asks.{AsksOver, all_sensors}
 use Rattle.pt_run.specs.Auditing.{LastFails}

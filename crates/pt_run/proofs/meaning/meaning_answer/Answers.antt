@@ -3,7 +3,7 @@ use Rattle.pt_run.specs.Asks.{AsksOver}
 use Rattle.std.proofs.Common.{[], Some, subst, sym, refl}
 use Rattle.std.specs.Prelude.{string_bytes}
 use Rattle.pt_causality.specs.Ranked.{level_of}
-use Rattle.pt_sensors.specs.declared.recorded_fault.LateRows.TheVariants.{Taken}
+use Rattle.pt_sensor_files.specs.declared.recorded_fault.LateRows.TheVariants.{Taken}
 use Rattle.pt_run.specs.Due.{AfterRows, IsMeantBy}
 use Rattle.pt_run.proofs.Endings.{free_due}
 use Rattle.pt_run.proofs.meaning.meaning_answer.Goals as goal

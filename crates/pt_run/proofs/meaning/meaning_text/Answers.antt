@@ -5,7 +5,7 @@ use Rattle.std.specs.Prelude.{string_bytes}
 use Rattle.std.specs.declared.alloc.Global.{Global}
 use Rattle.pt_sensors.specs.declared.sensor_rows.SensorRows.{SensorRows}
 use Rattle.pt_sensors.specs.Listed.{rows_for}
-use Rattle.pt_sensors.specs.declared.recorded_fault.LateRows.TheVariants.{Taken}
+use Rattle.pt_sensor_files.specs.declared.recorded_fault.LateRows.TheVariants.{Taken}
 use Rattle.pt_run.specs.Due.{AnswersAsDue, IsMeantBy, RefusedWith}
 use Rattle.pt_run.proofs.Asks.{meant_asks, rows_asked}
 use Rattle.pt_run.proofs.Endings.{read_due, rows_due}

@@ -1,6 +1,6 @@
 use Rattle.std.proofs.Common.{Some, refl, subst, sym}
 use Rattle.pt_io.specs.Calls.{SourceCall, SinkCall, reading, writing}
-use Rattle.pt_sensors.proofs.Asking.{asks_none}
+use Rattle.pt_sensor_files.proofs.Asking.{asks_none}
 use Rattle.pt_words.specs.declared.orders.Order as declared
 use Rattle.pt_words.specs.Claims.{HasFewClaims}
 use Rattle.pt_words.specs.Views.{in_words}

@@ -3,7 +3,7 @@ use Rattle.std.specs.Arc.{arc_value}
 use Rattle.pt_types.specs.declared.graph.Graph.{Graph}
 use Rattle.pt_offsets.specs.Plans.{Parts}
 use Rattle.pt_io.specs.Calls.{Contents}
-use Rattle.pt_sensors.proofs.Asking.{of_content}
+use Rattle.pt_sensor_files.proofs.Asking.{of_content}
 use Rattle.pt_air.specs.AirOf.{air_of}
 use Rattle.pt_semantics.specs.RecordedTimes.{KeepsBounds}
 use Rattle.pt_run.specs.declared.fault.Fault.TheVariants as fault

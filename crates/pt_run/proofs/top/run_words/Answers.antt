@@ -1,7 +1,7 @@
 use Rattle.std.specs.Prelude.{option_map}
 use Rattle.std.proofs.Common.{rules, ◌≡◌, ◌∙◌, None, Option, Some, ap, refl, subst, sym}
 use Rattle.pt_io.specs.Calls.{SourceCall, SinkCall, reading, writing}
-use Rattle.pt_sensors.proofs.Asking.{asks_none}
+use Rattle.pt_sensor_files.proofs.Asking.{asks_none}
 use Rattle.pt_io.specs.Clocks.{viewed}
 use Rattle.pt_words.specs.Views.{in_words}
 use Rattle.pt_words.specs.Grammar.{Order, order_of}

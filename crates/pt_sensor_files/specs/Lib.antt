@@ -1,0 +1,6 @@
+pub mod Asked
+pub mod Bytes
+pub mod Counts
+pub mod Faults
+pub mod Files
+pub mod Recorded
