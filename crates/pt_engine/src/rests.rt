@@ -17,7 +17,7 @@ const SHORT: u64 = 500;
 /// How many rests in a row have to end in time until short ones are begun.
 const FIRST: u32 = 8;
 
-/// After a rest that ended too late, so many times as many have to end in time until short ones are begun again.
+/// After a rest that ended too late, this many times as many have to end in time until short ones are begun again.
 const TIMES: u32 = 8;
 
 /// A rest that was begun last.

@@ -107,7 +107,7 @@ impl GapBuffer {
         self.before.len().saturating_add(self.after.len())
     }
 
-    /// Whether there are more events than so many firings can take, each of which takes eight at most.
+    /// Whether there are more events than this many firings can take, each of which takes eight at most.
     #[inline(always)]
     pub fn is_crowded(&self, firings: usize) -> bool
         ensures { IsTrue result → IsCrowded (in_line place_cmp self.now) firings }

@@ -77,7 +77,7 @@ impl Late {
         self.pending.enter(place, value)
     }
 
-    /// Whether so many events wait for later tags that so many firings can't take them all.
+    /// Whether more events wait for later tags than this many firings can take.
     #[inline(always)]
     pub fn is_crowded(&self, firings: usize) -> bool
         ensures { IsTrue result → IsCrowded (late_value self.now) firings }

@@ -51,7 +51,7 @@ impl Later {
         }
     }
 
-    /// Whether there are more events than so many firings can take, each of which takes eight at most.
+    /// Whether there are more events than this many firings can take, each of which takes eight at most.
     #[inline(always)]
     pub fn is_crowded(&self, firings: usize) -> bool
         ensures { IsTrue result → IsCrowded (tree.get place_cmp self.now.events) firings }

@@ -66,7 +66,7 @@ impl Pending {
         self.later.enter(place, value)
     }
 
-    /// Whether in the line or in the map there are more events than so many firings can take.
+    /// Whether in the line or in the map there are more events than this many firings can take.
     #[inline(always)]
     pub fn is_crowded(&self, firings: usize) -> bool
         ensures { IsTrue result → IsCrowded (pending_value self.now) firings }
